@@ -1,0 +1,5 @@
+-- What the contracts of the crate cite, and what is proved of the definition.
+pub mod WholeRoot
+pub mod SquareRoot
+pub mod Nearer
+pub mod Steps
