@@ -3,15 +3,41 @@ use std::time::Instant;
 
 pub const NAN: u64 = 0x7ff8_0000_0000_0000;
 
-/// The proved routines, as safe functions.
+/// The proved routines, as safe functions. Each export takes every number; `arcs_sin_cos` writes at most the two numbers lent.
 pub mod proved {
     extern "C" {
         fn arcs_sqrt(x: f64) -> f64;
+        fn arcs_sin(x: f64) -> f64;
+        fn arcs_cos(x: f64) -> f64;
+        fn arcs_sin_cos(x: f64, out: *mut f64, len: usize) -> u32;
+        fn arcs_atan2(y: f64, x: f64) -> f64;
+        fn arcs_acos(c: f64) -> f64;
     }
 
     pub fn sqrt(x: f64) -> f64 {
-        // The export takes every number and touches no memory.
         unsafe { arcs_sqrt(x) }
+    }
+
+    pub fn sin(x: f64) -> f64 {
+        unsafe { arcs_sin(x) }
+    }
+
+    pub fn cos(x: f64) -> f64 {
+        unsafe { arcs_cos(x) }
+    }
+
+    pub fn sin_cos(x: f64) -> (f64, f64) {
+        let mut out = [0.0; 2];
+        unsafe { arcs_sin_cos(x, out.as_mut_ptr(), 2) };
+        (out[0], out[1])
+    }
+
+    pub fn atan2(y: f64, x: f64) -> f64 {
+        unsafe { arcs_atan2(y, x) }
+    }
+
+    pub fn acos(c: f64) -> f64 {
+        unsafe { arcs_acos(c) }
     }
 }
 
@@ -29,6 +55,11 @@ impl Random {
 
     pub fn below(&mut self, n: u64) -> u64 {
         self.bits() % n
+    }
+
+    /// From -size to size.
+    pub fn within(&mut self, size: f64) -> f64 {
+        ((self.bits() >> 11) as f64 / (1u64 << 52) as f64 - 1.0) * size
     }
 }
 
@@ -48,16 +79,16 @@ pub struct Time {
     pub slowest: f64,
 }
 
-/// Times one routine over the numbers, each call on its own.
-pub fn time(rounds: u32, xs: &[f64], f: impl Fn(f64) -> f64) -> Time {
+/// Times one routine over the arguments, each call on its own.
+pub fn time<A: Copy>(rounds: u32, arguments: &[A], f: impl Fn(A) -> f64) -> Time {
     let mut t = Time { fastest: f64::INFINITY, slowest: 0.0 };
     for _ in 0..rounds {
         let mut sum = 0.0;
         let from = Instant::now();
-        for &x in xs {
+        for &x in arguments {
             sum += f(x);
         }
-        let each = from.elapsed().as_nanos() as f64 / xs.len() as f64;
+        let each = from.elapsed().as_nanos() as f64 / arguments.len() as f64;
         std::hint::black_box(sum);
         t.fastest = t.fastest.min(each);
         t.slowest = t.slowest.max(each);
@@ -68,7 +99,7 @@ pub fn time(rounds: u32, xs: &[f64], f: impl Fn(f64) -> f64) -> Time {
 /// Prints the two times and their ratio.
 pub fn report(what: &str, own: Time, other: Time) {
     println!(
-        "{what:<28} {:>7.2} ns (to {:.2})   machine {:>7.2} ns (to {:.2})   ratio {:.2}",
+        "{what:<28} {:>7.2} ns (to {:.2})   theirs {:>7.2} ns (to {:.2})   ratio {:.2}",
         own.fastest, own.slowest, other.fastest, other.slowest, own.fastest / other.fastest
     );
 }

@@ -6,7 +6,7 @@ use Prim.Native.Nat.{ℕ, _%_, _^_, _<_}
 use native.Mathlib.Omega.{arith}
 use lib.IntN.{pos}
 use lib.Dec.{T}
-use lib.Ieee.{Float, nan, inf, fin, binary64, isNan, lt, le, neg, fits, ofBits, toBits}
+use lib.Ieee.{Float, nan, inf, fin, binary64, isNan, lt, le, neg, div, fits, ofBits, toBits}
 use lib.Ieee.Bits.{is-true, is-false, ofBits-toBits, toBits-ofBits, nanBits-is}
 use Rattle.laws.specs.Number.{number}
 use Rattle.laws.specs.Size.{abs}
@@ -15,7 +15,7 @@ use Rattle.laws.proofs.Order.{lt→le, le-refl, lt-or-le, not-both, lt-neg}
 use Rattle.laws.proofs.Tests.{le-test}
 use Rattle.laws.proofs.SignBit.{neg-neg}
 use Rattle.laws.proofs.Pattern.{ofBits-abs, abs-pattern}
-use Rattle.scalar.specs.Angles.{pi, fracPi2}
+use Rattle.scalar.specs.Angles.{tau, pi, fracPi2}
 use Rattle.scalar.specs.Extremes.{minimum, maximum}
 use Rattle.scalar.specs.Clamp.{noRange, clamp}
 
@@ -125,11 +125,11 @@ abs-bits x f p =
     below : (n : ℕ) → n % 2 ^ 63 < 2 ^ 64
     below n = omega arith
 
--- ---- the constants by their bits
-pub pi-bits : pi ≡ ofBits binary64 0x400921fb54442d18
-unfolding pi ofBits
-pi-bits = refl
+-- ---- the constants: TAU / 2.0 and TAU / 4.0
+pub pi-half : pi ≡ div binary64 tau (ofBits binary64 0x4000000000000000)
+unfolding div ofBits
+pi-half = refl
 
-pub fracPi2-bits : fracPi2 ≡ ofBits binary64 0x3ff921fb54442d18
-unfolding fracPi2 ofBits
-fracPi2-bits = refl
+pub fracPi2-quarter : fracPi2 ≡ div binary64 tau (ofBits binary64 0x4010000000000000)
+unfolding div ofBits
+fracPi2-quarter = refl

@@ -1,15 +1,12 @@
--- 01, 'Roots and angles': "TAU has bits 401921fb54442d18; PI and FRAC_PI_2 are its half and quarter." Definitions only. Assumes nothing.
-use lib.Ieee.{Float, binary64, ofBits, div}
+-- 01, 'Roots and angles': "TAU has bits 401921fb54442d18; PI and FRAC_PI_2 are its half and quarter." That they are is `pi-half` and `fracPi2-quarter` in proofs/Rules.antt.
+-- Definitions only. Assumes nothing.
+use lib.Ieee.{Float, binary64, ofBits}
 
 abbrev pub tau : Float
 tau = ofBits binary64 0x401921fb54442d18
 
--- half of TAU: TAU / 2.0
-unfoldable pub pi : Float
-unfolding div
-pi = div binary64 tau (ofBits binary64 0x4000000000000000)
+abbrev pub pi : Float
+pi = ofBits binary64 0x400921fb54442d18
 
--- a quarter of TAU: TAU / 4.0
-unfoldable pub fracPi2 : Float
-unfolding div
-fracPi2 = div binary64 tau (ofBits binary64 0x4010000000000000)
+abbrev pub fracPi2 : Float
+fracPi2 = ofBits binary64 0x3ff921fb54442d18

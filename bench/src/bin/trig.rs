@@ -1,0 +1,33 @@
+//! Sine, cosine, arctangent and arccosine against the standard library's, on the same arguments, in one run.
+//! `bench/run trig [SEED]`. The arguments are many, so that the processor does not learn by heart which way a branch goes.
+use bench::{proved, report, seed, time, Random};
+use std::f64::consts::{PI, TAU};
+
+const ROUNDS: u32 = 40;
+const ARGUMENTS: usize = 65_536;
+
+fn main() {
+    let mut random = Random(seed());
+    for (name, size) in [("below TAU", TAU), ("below PI", PI), ("below 1,024", 1024.0)] {
+        let xs: Vec<f64> = (0..ARGUMENTS).map(|_| random.within(size)).collect();
+        let own = |x| {
+            let (s, c) = proved::sin_cos(x);
+            s + c
+        };
+        let theirs = |x: f64| {
+            let (s, c) = x.sin_cos();
+            s + c
+        };
+        report(&format!("sin_cos {name}"), time(ROUNDS, &xs, own), time(ROUNDS, &xs, theirs));
+        report(&format!("sin {name}"), time(ROUNDS, &xs, proved::sin), time(ROUNDS, &xs, f64::sin));
+        report(&format!("cos {name}"), time(ROUNDS, &xs, proved::cos), time(ROUNDS, &xs, f64::cos));
+    }
+    let points: Vec<(f64, f64)> = (0..ARGUMENTS).map(|_| (random.within(1000.0), random.within(1000.0))).collect();
+    report(
+        "atan2 all quadrants",
+        time(ROUNDS, &points, |(y, x)| proved::atan2(y, x)),
+        time(ROUNDS, &points, |(y, x)| y.atan2(x)),
+    );
+    let cs: Vec<f64> = (0..ARGUMENTS).map(|_| random.within(1.0)).collect();
+    report("acos -1 to 1", time(ROUNDS, &cs, proved::acos), time(ROUNDS, &cs, f64::acos));
+}

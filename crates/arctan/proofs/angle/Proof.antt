@@ -1,0 +1,50 @@
+-- `arctan::angle` meets its contract. Assumes nothing.
+use mathlib.Core.Path.{_≡_, refl}
+use mathlib.Core.Bool.{Bool}
+use Prim.Native.Nat.{ℕ, _≤_}
+use native.Mathlib.Omega.{arith}
+use Rattle.arctan.specs.Rule.{turnedOf, angleOf}
+use Rattle.arctan.proofs.Steps.{turned-small}
+use borrow.Author.Needs.{needs}
+use Rattle.arctan.proofs.angle.Statement.{statement}
+use Rattle.arctan.proofs.angle.Tie as tie
+
+under : (t : Bool) (n m : ℕ) → m ≡ turnedOf t n → n ≤ 2558044588346441728 → m ≤ 7244019458077122560
+under t n m e h = omega (arith, turned-small t n h)
+
+arc-requires : tie.Need-arc-requires
+arc-requires c κs = search needs
+
+less-if-requires : tie.Need-less-if-requires
+less-if-requires c κs = search needs
+
+less-if-requires-2 : tie.Need-less-if-requires-2
+less-if-requires-2 c κs = under (c .before .before .args .steep) (c .before .arc .result) (c .less-if .result) (c .less-if .ensures) (c .before .arc .ensures .1)
+
+float-requires : tie.Need-float-requires
+float-requires c κs = search needs
+
+pick-requires : tie.Need-pick-requires
+pick-requires c κs = search needs
+
+returns : tie.Need-returns
+unfolding angleOf
+returns c =
+    rw (
+      c .pick .ensures,
+      c .before .float .ensures,
+      c .before .before .less-if2 .ensures,
+      c .before .before .before .less-if .ensures,
+      c .before .before .before .before .arc .ensures .0,
+    ) refl
+
+pub angle-spec : {M : Type 1} → statement M
+angle-spec =
+    tie.close
+    (tie.spec
+    arc-requires
+    less-if-requires
+    less-if-requires-2
+    float-requires
+    pick-requires
+    returns)

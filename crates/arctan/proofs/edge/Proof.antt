@@ -1,0 +1,35 @@
+-- `arctan::edge` meets its contract. Assumes nothing.
+use mathlib.Core.Path.{refl, sym}
+use lib.Ieee.{div, ofBits, ofFields, odd}
+use Rattle.arctan.proofs.Cases.{edge-nan, edge-number}
+use Rattle.laws.proofs.Tests.{ne-self}
+use borrow.Author.Needs.{needs}
+use Rattle.arctan.proofs.edge.Statement.{statement}
+use Rattle.arctan.proofs.edge.Tie as tie
+
+returns : tie.Need-returns
+unfolding div ofBits ofFields odd
+returns c =
+    let y = c .before .args .y in
+    let x = c .before .args .x in
+    sym (edge-nan y x (rw (ne-self y, ne-self x) at (c .if1 .taken)))
+
+edge-size-requires : tie.Need-edge-size-requires
+edge-size-requires c κs = search needs
+
+is-negative-requires : tie.Need-is-negative-requires
+is-negative-requires c κs = search needs
+
+pick-requires : tie.Need-pick-requires
+pick-requires c κs = search needs
+
+returns-2 : tie.Need-returns-2
+returns-2 c =
+    let start = c .before .before .before .before in
+    let y = start .args .y in
+    let x = start .args .x in
+    rw (c .pick .ensures, c .before .is-negative .ensures, c .before .before .edge-size .ensures, edge-number y x (rw (ne-self y, ne-self x) at (c .before .before .before .if1 .left))) refl
+
+pub edge-spec : {M : Type 1} → statement M
+edge-spec =
+    tie.close (tie.spec returns edge-size-requires is-negative-requires pick-requires returns-2)

@@ -1,0 +1,1 @@
+// Definitions and laws alone: specs/ has the polynomials, proofs/ what is proved of them.

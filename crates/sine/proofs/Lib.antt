@@ -1,0 +1,5 @@
+-- What the proofs of the functions share, and what is proved of the remainder.
+pub mod Sizes
+pub mod Splits
+pub mod Remainders
+pub mod Shortcuts

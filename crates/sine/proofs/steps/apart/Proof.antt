@@ -1,0 +1,28 @@
+-- `sine::steps::apart` meets its contract. Assumes nothing.
+use mathlib.Core.Path.{refl}
+use native.Mathlib.Omega.{arith}
+use borrow.Author.Needs.{needs}
+use borrow.Author.Tests.{lt-ltb, le-ltb}
+use Rattle.sine.specs.Node.{apart}
+use Rattle.sine.proofs.steps.apart.Statement.{statement}
+use Rattle.sine.proofs.steps.apart.Tie as tie
+
+sub-result : tie.Need-sub-result
+sub-result c = search needs
+
+mul-result : tie.Need-mul-result
+mul-result c = search needs
+
+mul-result-2 : tie.Need-mul-result-2
+mul-result-2 c = search needs
+
+returns : tie.Need-returns
+unfolding apart
+returns c = rw (lt-ltb (c .before .args .n) (c .before .args .c) (omega arith)) refl
+
+returns-2 : tie.Need-returns-2
+unfolding apart
+returns-2 c = rw (le-ltb (c .before .args .n) (c .before .args .c) (omega arith)) refl
+
+pub apart-spec : {M : Type 1} → statement M
+apart-spec = tie.close (tie.spec sub-result mul-result mul-result-2 returns returns-2)

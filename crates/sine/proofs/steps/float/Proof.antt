@@ -1,0 +1,79 @@
+-- `sine::steps::float` meets its contract: the difference fits a signed number, and it is a float exactly. Assumes nothing.
+use mathlib.Core.Path.{_≡_, refl, sym, _∙_, ap, subst}
+use mathlib.Core.Bool.{Bool, true, false, cond}
+use Prim.Native.Nat.{ℕ, suc, _-_, _*_, _≤_, _^_}
+use native.Mathlib.Omega.{arith}
+use borrow.Author.Needs.{needs}
+use borrow.Author.Tests.{ltb-true, lt-ltb}
+use lib.IntN.{ℤ, pos, negsuc, subℕ, _-ℤ_}
+use lib.Dec.{T, ltb, le→leb, lt→ltb}
+use lib.Ieee.{binary64, inFloat}
+use mir.Syntax.{w64}
+use mir.Val.{SFits, toZ, ofZ}
+use mir.Facts.{toZ-ofZ}
+use Rattle.sine.specs.Rule.{float, places}
+use Rattle.sine.proofs.Sizes.{places-range}
+use Rattle.sine.proofs.steps.float.Statement.{statement}
+use Rattle.sine.proofs.steps.float.Tie as tie
+
+-- ---- k - 3 * 2 ^ 53, for k from 2 ^ 54 to 2 ^ 55
+module _ (k : ℕ) (low : 2 ^ 54 ≤ k) (high : k ≤ 2 ^ 55) where
+  signed-is : toZ w64 k ≡ pos k
+  signed-is = rw (lt-ltb k (2 ^ 63) (omega arith)) refl
+
+  difference-is : toZ w64 k -ℤ pos 27021597764222976 ≡ subℕ k (3 * 2 ^ 53)
+  difference-is = rw signed-is refl
+
+  difference-fits : SFits w64 (subℕ k (3 * 2 ^ 53))
+  difference-fits = go (ltb k (3 * 2 ^ 53)) refl
+    where
+      go : (b : Bool) → ltb k (3 * 2 ^ 53) ≡ b → SFits w64 (cond b (negsuc (3 * 2 ^ 53 - suc k)) (pos (k - 3 * 2 ^ 53)))
+      go true e = record { sfits = omega arith }
+      go false e = record { sfits = omega arith }
+
+  difference-exact : T (inFloat binary64 (subℕ k (3 * 2 ^ 53)))
+  unfolding inFloat
+  difference-exact = go (ltb k (3 * 2 ^ 53)) refl
+    where
+      go : (b : Bool) → ltb k (3 * 2 ^ 53) ≡ b → T (inFloat binary64 (cond b (negsuc (3 * 2 ^ 53 - suc k)) (pos (k - 3 * 2 ^ 53))))
+      go true e = lt→ltb (3 * 2 ^ 53 - suc k) (2 ^ 53) (omega (arith, ltb-true k (3 * 2 ^ 53) e))
+      go false e = le→leb (k - 3 * 2 ^ 53) (2 ^ 53) (omega arith)
+
+  stored-is : toZ w64 (ofZ w64 (toZ w64 k -ℤ pos 27021597764222976)) ≡ subℕ k (3 * 2 ^ 53)
+  stored-is = ap (λ (z : ℤ). toZ w64 (ofZ w64 z)) difference-is ∙ toZ-ofZ difference-fits
+
+-- ---- and the needs
+places-requires : tie.Need-places-requires
+places-requires c κs = search needs
+
+cast-k : tie.Need-cast-k
+cast-k c = record { sfits = omega (arith, places-range (c .before .args .t), c .places .ensures) }
+
+sub-k : tie.Need-sub-k
+sub-k c =
+    let k = c .places .result in
+    let r = places-range (c .before .args .t) in
+    let e = c .places .ensures in
+    subst (λ (z : ℤ). SFits w64 z) (sym (difference-is k (omega arith) (omega arith))) (difference-fits k (omega arith) (omega arith))
+
+int-to-float-result : tie.Need-int-to-float-result
+int-to-float-result c =
+    let k = c .before .places .result in
+    let r = places-range (c .before .before .args .t) in
+    let e = c .before .places .ensures in
+    subst (λ (z : ℤ). T (inFloat binary64 z)) (sym (stored-is k (omega arith) (omega arith))) (difference-exact k (omega arith) (omega arith))
+
+pick-requires : tie.Need-pick-requires
+pick-requires c κs = search needs
+
+returns : tie.Need-returns
+unfolding float
+returns c =
+    let k = c .before .before .places .result in
+    let r = places-range (c .before .before .before .args .t) in
+    let e = c .before .before .places .ensures in
+    rw (stored-is k (omega arith) (omega arith), e, c .pick .ensures) refl
+
+pub float-spec : {M : Type 1} → statement M
+float-spec =
+    tie.close (tie.spec places-requires cast-k sub-k int-to-float-result pick-requires returns)
