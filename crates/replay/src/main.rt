@@ -24,6 +24,10 @@ struct Count {
 }
 
 struct Tally {
+    sin: Count,
+    cos: Count,
+    atan2: Count,
+    acos: Count,
     sqrt: Count,
     abs: Count,
     min: Count,
@@ -97,6 +101,10 @@ fn answer(row: Row) -> f64 {
     let z = scalar::from_bits(row.z);
     let routine = row.routine;
     match routine {
+        b'n' => sine::sin(x),
+        b'o' => sine::cos(x),
+        b't' => arctan::atan2(x, y),
+        b'r' => arccos::acos(x),
         b's' => root::sqrt(x),
         b'a' => scalar::abs(x),
         b'm' => scalar::min(x, y),
@@ -111,6 +119,10 @@ fn with_answer(t: Tally, row: Row) -> Tally {
     let mut next = t;
     let routine = row.routine;
     match routine {
+        b'n' => next.sin = with_row(t.sin, same),
+        b'o' => next.cos = with_row(t.cos, same),
+        b't' => next.atan2 = with_row(t.atan2, same),
+        b'r' => next.acos = with_row(t.acos, same),
         b's' => next.sqrt = with_row(t.sqrt, same),
         b'a' => next.abs = with_row(t.abs, same),
         b'm' => next.min = with_row(t.min, same),
@@ -142,6 +154,10 @@ fn step(t: Tally, r: Read) -> Tally {
 fn replay() -> Tally {
     let none = Count { rows: 0, differ: 0 };
     let mut t = Tally {
+        sin: none,
+        cos: none,
+        atan2: none,
+        acos: none,
         sqrt: none,
         abs: none,
         min: none,
@@ -163,6 +179,10 @@ fn replay() -> Tally {
 
 fn main() {
     let t = replay();
+    print_count(b"sin", t.sin);
+    print_count(b"cos", t.cos);
+    print_count(b"atan2", t.atan2);
+    print_count(b"acos", t.acos);
     print_count(b"sqrt", t.sqrt);
     print_count(b"abs", t.abs);
     print_count(b"min", t.min);

@@ -39,6 +39,16 @@ pub fn not_a_number() -> f64
     0.0 / 0.0
 }
 
+// x itself. A NaN comes back as the one that `not_a_number` gives: the proofs have one NaN, the machine many patterns.
+pub fn with_one_nan(x: f64) -> f64
+    ensures { λ r. ⌜ r ≡ x ⌝ }
+{
+    if x != x {
+        return not_a_number();
+    }
+    x
+}
+
 // The bit pattern of x. Every NaN has the same one, 7ff8000000000000.
 pub fn to_bits(x: f64) -> u64
     ensures { λ r. ⌜ r ≡ toBits binary64 x ⌝ }

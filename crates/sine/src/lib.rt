@@ -30,7 +30,7 @@ fn sine_from(x: f64, n: u64, p: Place) -> f64
         let t = steps::turned(p.node_sine, p.node_cosine, p.versine, p.sine, p.under);
         steps::float(t, x < 0.0)
     } else {
-        x % TAU
+        scalar::with_one_nan(x % TAU)
     }
 }
 
@@ -43,7 +43,7 @@ fn cosine_from(x: f64, n: u64, p: Place) -> f64
         let t = steps::turned(p.node_cosine, p.node_sine, p.versine, p.sine, !p.under);
         return steps::float(t, false);
     }
-    let r = x % TAU;
+    let r = scalar::with_one_nan(x % TAU);
     fixed::pick(r == r, 1.0, r)
 }
 

@@ -31,17 +31,20 @@ returns c =
     let b : leb (2 ^ 34) n ≡ true = le-leb (2 ^ 34) n (omega arith) in
     simp (← start .pre .0, b, c .float .ensures, t)
 
+with-one-nan-requires : tie.Need-with-one-nan-requires
+with-one-nan-requires c κs = search needs
+
 pick-requires : tie.Need-pick-requires
 pick-requires c κs = search needs
 
 returns-2 : tie.Need-returns-2
 unfolding cosine tau
 returns-2 c =
-    let start = c .before .before in
+    let start = c .before .before .before in
     let n = start .args .n in
     let b : leb (2 ^ 34) n ≡ false = lt-leb (2 ^ 34) n (omega arith) in
-    simp (← start .pre .0, b, c .pick .ensures)
+    simp (← start .pre .0, b, c .pick .ensures, c .before .with-one-nan .ensures)
 
 pub cosine-from-spec : {M : Type 1} → statement M
 cosine-from-spec =
-    tie.close (tie.spec turned-requires float-requires returns pick-requires returns-2)
+    tie.close (tie.spec turned-requires float-requires returns with-one-nan-requires pick-requires returns-2)

@@ -3,6 +3,7 @@ use mathlib.Core.Path.{_≡_, _∙_}
 use mathlib.Core.Bool.{true, false}
 use Prim.Native.Nat.{_^_}
 use native.Mathlib.Omega.{arith}
+use borrow.Author.Needs.{needs}
 use borrow.Author.Tests.{le-leb, lt-leb}
 use lib.Dec.{leb}
 use Rattle.sine.specs.Angle.{tau}
@@ -30,12 +31,16 @@ returns c =
     let b : leb (2 ^ 35) n ≡ true = le-leb (2 ^ 35) n (omega arith) in
     simp (← start .pre .0, b, c .float .ensures, t)
 
+with-one-nan-requires : tie.Need-with-one-nan-requires
+with-one-nan-requires c κs = search needs
+
 returns-2 : tie.Need-returns-2
 unfolding sine tau
 returns-2 c =
-    let n = c .before .args .n in
+    let start = c .before .before in
+    let n = start .args .n in
     let b : leb (2 ^ 35) n ≡ false = lt-leb (2 ^ 35) n (omega arith) in
-    simp (← c .before .pre .0, b)
+    simp (← start .pre .0, b, c .with-one-nan .ensures)
 
 pub sine-from-spec : {M : Type 1} → statement M
-sine-from-spec = tie.close (tie.spec turned-requires float-requires returns returns-2)
+sine-from-spec = tie.close (tie.spec turned-requires float-requires with-one-nan-requires returns returns-2)
