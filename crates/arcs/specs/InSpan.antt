@@ -1,0 +1,15 @@
+-- 01, the table of refusals: 6 "`arc_param_in_span` answers `None`: the angle is outside a partial arc's span, slack included". Definitions only. Assumes nothing.
+use Prim.Native.Nat.{ℕ}
+use lib.Ieee.{Float}
+use Rattle.laws.specs.Literal.{zero}
+use Rattle.arc.specs.declared.InSpan.{InSpan}
+use Rattle.arc.specs.declared.InSpan.the-variants.{At, Outside}
+
+abbrev pub spanRefusal : InSpan → ℕ
+spanRefusal (At t) = 0
+spanRefusal Outside = 6
+
+-- outside there is no value; a refusal gives none
+abbrev pub spanNumber : InSpan → Float
+spanNumber (At t) = t
+spanNumber Outside = zero

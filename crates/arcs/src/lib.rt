@@ -1,0 +1,32 @@
+// The public library: every call takes any number, checks its own, and refuses by document 01's number. It demands nothing of its caller.
+mod answers;
+mod checks;
+mod crossings;
+mod curves;
+mod points;
+mod spans;
+
+pub use answers::Found;
+pub use answers::Hunted;
+pub use answers::Number;
+pub use answers::Pair;
+pub use crossings::hit;
+pub use crossings::intersect_arcs;
+pub use crossings::intersect_segment_arc;
+pub use crossings::intersect_segments;
+pub use curves::Curve;
+pub use curves::intersect;
+pub use points::arc_end_pos;
+pub use points::arc_point_at;
+pub use points::arc_start_pos;
+pub use points::arc_tangent_at;
+pub use points::ellipse_point;
+pub use points::ellipse_tangent;
+pub use points::line_line_intersection;
+pub use points::point_to_segment_dist;
+pub use points::project_onto_segment;
+pub use spans::arc_param_at_point;
+pub use spans::arc_param_in_span;
+pub use spans::arc_radii;
+pub use spans::arc_theta_of_pos;
+pub use spans::norm_tau;

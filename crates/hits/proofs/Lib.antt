@@ -1,0 +1,2 @@
+-- Laws of the room.
+pub mod Rooms

@@ -1,0 +1,123 @@
+// Crossings of two curves, and the lent room that they are written to.
+ghost use mathlib.Core.Path.{_≡_};
+ghost use Prim.Native.Nat.{_<_, _≤_, _/_};
+ghost use lib.ListN.{length};
+ghost use Rattle.hits.specs.Hit.{hitSize, put, written, hitPart};
+ghost use Rattle.hits.specs.Listed.{listed, one, both, turned, exchanged};
+use arc::Point;
+
+// How many numbers a hit takes.
+pub const HIT: usize = 4;
+
+// One crossing: the parameter on each curve, and the position.
+pub struct CurveHit {
+    pub t_a: f64,
+    pub t_b: f64,
+    pub pos: Point,
+}
+
+// A candidate that the tests have kept or dropped.
+pub enum Crossing {
+    At(CurveHit),
+    Miss,
+}
+
+// The crossings that a closed form finds, in order.
+pub enum Crossings {
+    None,
+    One(CurveHit),
+    Two(CurveHit, CurveHit),
+}
+
+pub fn one(a: Crossing) -> Crossings
+    ensures { λ r. ⌜ r ≡ one a ⌝ }
+{
+    match a {
+        Crossing::At(h) => Crossings::One(h),
+        Crossing::Miss => Crossings::None,
+    }
+}
+
+// Two candidates in order.
+pub fn both(a: Crossing, b: Crossing) -> Crossings
+    ensures { λ r. ⌜ r ≡ both a b ⌝ }
+{
+    match a {
+        Crossing::At(h) => match b {
+            Crossing::At(g) => Crossings::Two(h, g),
+            Crossing::Miss => Crossings::One(h),
+        },
+        Crossing::Miss => match b {
+            Crossing::At(g) => Crossings::One(g),
+            Crossing::Miss => Crossings::None,
+        },
+    }
+}
+
+fn turned(h: CurveHit) -> CurveHit
+    ensures { λ r. ⌜ r ≡ turned h ⌝ }
+{
+    let pos = h.pos;
+    CurveHit {
+        t_a: h.t_b,
+        t_b: h.t_a,
+        pos: pos,
+    }
+}
+
+// The same crossings with the curves in the other order.
+pub fn exchanged(c: Crossings) -> Crossings
+    ensures { λ r. ⌜ r ≡ exchanged c ⌝ }
+{
+    match c {
+        Crossings::None => Crossings::None,
+        Crossings::One(h) => Crossings::One(turned(h)),
+        Crossings::Two(h, g) => Crossings::Two(turned(h), turned(g)),
+    }
+}
+
+// Writes a hit after the first n.
+pub fn put(room: &mut [f64], n: usize, h: CurveHit)
+    requires { ⌜ n < length (now room) / hitSize ⌝ }
+    ensures { λ _. ⌜ now (room .exit) ≡ put (now (room .entry)) n h ⌝ }
+{
+    let at = n * HIT;
+    room[at] = h.t_a;
+    room[at + 1] = h.t_b;
+    room[at + 2] = h.pos.x;
+    room[at + 3] = h.pos.y;
+}
+
+// Writes the crossings and answers how many they are.
+pub fn write(room: &mut [f64], c: Crossings) -> usize
+    requires { ⌜ length (listed c) ≤ length (now room) / hitSize ⌝ }
+    ensures { λ r. ⌜ (r ≡ length (listed c)) × (now (room .exit) ≡ written (listed c) (now (room .entry))) ⌝ }
+{
+    match c {
+        Crossings::None => 0,
+        Crossings::One(h) => {
+            put(room, 0, h);
+            1
+        }
+        Crossings::Two(h, g) => {
+            put(room, 0, h);
+            put(room, 1, g);
+            2
+        }
+    }
+}
+
+// The numbers of the hit i, as that part of the room; the empty part where there is no such hit or it does not fit.
+pub fn hit<'a>(room: &'a [f64], hits: usize, i: usize) -> &'a [f64]
+    ensures { λ r. ⌜ now r ≡ hitPart (now (room .entry)) hits i ⌝ }
+{
+    if hits <= i {
+        return &room[0..0];
+    }
+    if room.len() / HIT <= i {
+        return &room[0..0];
+    }
+    let at = i * HIT;
+    let end = at + HIT;
+    &room[at..end]
+}

@@ -1,0 +1,49 @@
+-- What is proved of the hunt as a whole: its counts add up, and no second outcome satisfies its contract. Assumes nothing.
+use mathlib.Core.Path.{_≡_, refl, sym, _∙_}
+use mathlib.Core.Bool.{Bool, true, false, cond}
+use mathlib.Core.List.{List}
+use Prim.Native.Nat.{ℕ, _+_, _*_}
+use lib.ListN.{length}
+use lib.Ieee.{Float}
+use Rattle.laws.specs.Part.{part}
+use Rattle.arc.specs.declared.Arc.{Arc}
+use Rattle.arc.specs.Frame.{arcRadii}
+use Rattle.hunt.specs.declared.Tally.{Tally}
+use Rattle.hunt.specs.Frame.{frame}
+use Rattle.hunt.specs.Cells.{cells, span, firstCells, bracketed}
+use Rattle.hunt.specs.Outcome.{none, scanned, fates}
+use Rattle.hunt.specs.Hunt.{early, hunted, Hunted}
+use Rattle.hunt.proofs.Outcomes.{scanned-brackets, scanned-fates, scanned-angles}
+
+module _ (a b : Arc) (k : ℕ) where
+  pub hunted-early : early (arcRadii b) (span a) ≡ true → hunted a b k ≡ none
+  unfolding hunted
+  hunted-early e = rw e
+
+  pub hunted-on : early (arcRadii b) (span a) ≡ false → hunted a b k ≡ scanned (frame a b) (a .start) (part (span a) (cells k)) (cells k)
+  unfolding hunted
+  hunted-on e = rw e
+
+  -- "The answer holds brackets and the four fates, each counted by its own rule; the fates add up to the brackets."
+  pub hunted-fates : fates (hunted a b k) ≡ hunted a b k .brackets
+  unfolding hunted
+  hunted-fates = go (early (arcRadii b) (span a))
+    where
+      go : (e : Bool) → fates (cond e none (scanned (frame a b) (a .start) (part (span a) (cells k)) (cells k))) ≡ cond e none (scanned (frame a b) (a .start) (part (span a) (cells k)) (cells k)) .brackets
+      go true = refl
+      go false = scanned-fates (frame a b) (a .start) (part (span a) (cells k)) (cells k)
+
+  -- "N + 1 + 61 for each bracket, and 0 when an early test ends the call."
+  pub hunted-evaluations : early (arcRadii b) (span a) ≡ false → length (hunted a b k .angles) ≡ cells k + 1 + 61 * hunted a b k .brackets
+  hunted-evaluations e = rw (hunted-on e) (scanned-angles (frame a b) (a .start) (part (span a) (cells k)) (cells k))
+
+  pub hunted-nothing : early (arcRadii b) (span a) ≡ true → length (hunted a b k .angles) ≡ 0
+  hunted-nothing e = rw (hunted-early e)
+
+  -- the brackets are those of the list of cells
+  pub hunted-brackets : early (arcRadii b) (span a) ≡ false → hunted a b k .brackets ≡ bracketed (firstCells (frame a b) (a .start) (part (span a) (cells k)) (cells k))
+  hunted-brackets e = rw (hunted-on e) (scanned-brackets (frame a b) (a .start) (part (span a) (cells k)) (cells k))
+
+-- "that no second outcome satisfies it is itself proved"
+pub hunted-unique : (a b : Arc) (k : ℕ) (lent : List Float) (r s : Tally) (x y : List Float) → Hunted a b k lent r x → Hunted a b k lent s y → (r ≡ s) × (x ≡ y)
+hunted-unique a b k lent r s x y p q = (p .counts ∙ sym (q .counts), p .hits ∙ sym (q .hits))

@@ -1,0 +1,75 @@
+-- `hunt`: the tests before the first sample, then the cells of its depth. Assumes nothing.
+use mathlib.Core.Path.{_≡_, sym, ap, _∙_}
+use mathlib.Core.Bool.{true, false}
+use Prim.Native.Nat.{_≤_, _^_}
+use native.Mathlib.Omega.{arith}
+use lib.Pow.{pow-mono}
+use Rattle.arc.specs.Frame.{arcRadii}
+use Rattle.hits.specs.Hit.{written}
+use Rattle.hits.proofs.Rooms.{written-none}
+use Rattle.hunt.specs.Frame.{frame}
+use Rattle.hunt.specs.Cells.{span}
+use Rattle.hunt.specs.Outcome.{Outcome, tally, scanned}
+use Rattle.hunt.specs.Hunt.{early, hunted}
+use Rattle.hunt.proofs.Hunts.{hunted-early, hunted-on}
+use borrow.Author.Needs.{needs}
+use Rattle.hunt.proofs.hunt.Statement.{statement}
+use Rattle.hunt.proofs.hunt.Tie as tie
+
+framed-requires : tie.Need-framed-requires
+framed-requires c κs = search needs
+
+span-requires : tie.Need-span-requires
+span-requires c κs = search needs
+
+early-requires : tie.Need-early-requires
+early-requires c κs = search needs
+
+none-requires : tie.Need-none-requires
+none-requires c κs = search needs
+
+returns : tie.Need-returns
+unfolding frame
+returns c =
+    let z = c .before .before .before .before .before .before .args in
+    let test : early (arcRadii (z .b)) (span (z .a)) ≡ true = sym (rw (c .before .before .before .before .framed .ensures, c .before .before .before .span .ensures) at (c .before .before .early .ensures)) ∙ c .before .if1 .taken in
+    let is = hunted-early (z .a) (z .b) (z .depth) test in
+    record { counts = rw is (c .none .ensures); hits = rw is (sym (written-none _)) }
+
+cells-requires : tie.Need-cells-requires
+cells-requires c κs = search needs
+
+step-requires : tie.Need-step-requires
+step-requires c κs = search needs
+
+scan-requires : tie.Need-scan-requires
+scan-requires c κs =
+    let z = c .before .before .before .before .before .before .before .before .args in
+    let power : 2 ^ z .depth ≤ 2 ^ 7 = pow-mono (c .before .before .before .before .before .before .before .before .pre .0) in
+    rw (c .before .before .cells .ensures) (omega arith, c .before .before .before .before .before .before .before .before .pre .1)
+
+same-length : tie.Need-same-length
+same-length c = search needs
+
+returns-2 : tie.Need-returns-2
+unfolding frame
+returns-2 c =
+    let z = c .before .before .before .before .before .before .before .before .before .before .before .args in
+    let test : early (arcRadii (z .b)) (span (z .a)) ≡ false = sym (rw (c .before .before .before .before .before .before .before .before .before .framed .ensures, c .before .before .before .before .before .before .before .before .span .ensures) at (c .before .before .before .before .before .before .before .early .ensures)) ∙ c .before .before .before .before .before .before .if1 .left in
+    let is : scanned (c .before .before .before .before .before .before .before .before .before .framed .result) (z .a .start) (c .before .before .before .before .step .result) (c .before .before .before .before .before .cells .result) ≡ hunted (z .a) (z .b) (z .depth) = rw (c .before .before .before .before .step .ensures, c .before .before .before .before .before .before .before .before .before .framed .ensures, c .before .before .before .before .before .before .before .before .span .ensures, c .before .before .before .before .before .cells .ensures) (sym (hunted-on (z .a) (z .b) (z .depth) test)) in
+    record { counts = c .before .before .scan .ensures .0 ∙ ap tally is; hits = c .before .before .scan .ensures .1 ∙ ap (λ (o : Outcome). written (o .hits) (z .room .now)) is }
+
+pub hunt-spec : {M : Type 1} → statement M
+hunt-spec =
+    tie.close
+    (tie.spec
+    framed-requires
+    span-requires
+    early-requires
+    none-requires
+    returns
+    cells-requires
+    step-requires
+    scan-requires
+    same-length
+    returns-2)

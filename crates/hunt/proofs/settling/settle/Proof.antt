@@ -1,0 +1,40 @@
+-- `settling::settle` finds the fate, writes a hit and counts. Assumes nothing.
+use mathlib.Core.Path.{_≡_, ap, _∙_}
+use mathlib.Core.List.{List}
+use lib.ListN.{length}
+use Rattle.hits.specs.declared.CurveHit.{CurveHit}
+use Rattle.hits.specs.Hit.{written}
+use Rattle.hunt.specs.declared.Fate.{Fate}
+use Rattle.hunt.specs.declared.Tally.{Tally}
+use Rattle.hunt.specs.Outcome.{tally, settle}
+use Rattle.hunt.proofs.Outcomes.{settle-hits}
+use borrow.Author.Needs.{needs}
+use Rattle.hunt.proofs.settling.settle.Statement.{statement}
+use Rattle.hunt.proofs.settling.settle.Tie as tie
+
+fate-requires : tie.Need-fate-requires
+fate-requires c κs = search needs
+
+keep-requires : tie.Need-keep-requires
+keep-requires c κs = search needs
+
+settled-requires : tie.Need-settled-requires
+settled-requires c κs = search needs
+
+same-length : tie.Need-same-length
+same-length c = search needs
+
+returns : tie.Need-returns
+returns c =
+    let z = c .before .before .before .before .before .before .before .before .args in
+    λ o lent e w.
+    let n : z .t .hits ≡ length (o .hits) = ap (λ (x : Tally). x .hits) e in
+    let d = c .before .before .before .before .before .fate .ensures (o .hits) lent n w in (
+      c .settled .ensures o e ∙ ap (λ (x : Fate). tally (settle x o)) d,
+      c .before .before .before .keep .ensures (o .hits) lent n w
+          ∙ ap (λ (hs : List CurveHit). written hs lent) (settle-hits (c .before .before .before .before .before .fate .result) o)
+          ∙ ap (λ (x : Fate). written (settle x o .hits) lent) d,
+    )
+
+pub settle-spec : {M : Type 1} → statement M
+settle-spec = tie.close (tie.spec fate-requires keep-requires settled-requires same-length returns)

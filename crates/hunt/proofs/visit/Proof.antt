@@ -1,0 +1,59 @@
+-- `visit`: one cell. Assumes nothing.
+use mathlib.Core.Path.{_≡_, refl, sym, ap, _∙_}
+use mathlib.Core.List.{[], _∷_}
+use native.Mathlib.Omega.{arith}
+use Rattle.hunt.specs.Outcome.{tally, look, further, angles, resolve, visit}
+use Rattle.hunt.proofs.Outcomes.{look-counts, angles-length}
+use borrow.Author.Needs.{needs}
+use Rattle.hunt.proofs.visit.Statement.{statement}
+use Rattle.hunt.proofs.visit.Tie as tie
+
+looked-requires : tie.Need-looked-requires
+looked-requires c κs = search needs
+
+bracket-requires : tie.Need-bracket-requires
+bracket-requires c κs = search needs
+
+narrow-requires : tie.Need-narrow-requires
+narrow-requires c κs = search needs
+
+looked-requires-2 : tie.Need-looked-requires-2
+looked-requires-2 c κs = rw (c .before .before .before .looked .ensures) (omega arith)
+
+settle-requires : tie.Need-settle-requires
+settle-requires c κs =
+    let p = c .before .before .before .before .before .before .before .pre in
+    rw (c .before .looked2 .ensures, c .before .before .before .before .before .looked .ensures) (record { hits = p .0 .hits; brackets = p .0 .brackets; outsideA = p .0 .outsideA; outsideB = p .0 .outsideB; doubles = p .0 .doubles }, p .2)
+
+same-length : tie.Need-same-length
+same-length c = search needs
+
+returns : tie.Need-returns
+unfolding visit resolve
+returns c =
+    let z = c .before .before .before .before .before .before .before .before .before .before .args in
+    λ o lent e w.
+    let ended = look (z .c .hi ∷ []) o in
+    let first : c .before .before .before .before .before .before .before .before .looked .result ≡ tally ended = c .before .before .before .before .before .before .before .before .looked .ensures ∙ ap (further 1) e ∙ look-counts o (z .c .hi ∷ []) 1 refl in
+    let then : c .before .before .before .before .looked2 .result ≡ tally (look (angles (z .f) (z .c)) ended) = c .before .before .before .before .looked2 .ensures ∙ ap (further 61) first ∙ look-counts ended (angles (z .f) (z .c)) 61 (sym (angles-length (z .f) (z .c))) in
+    rw (← c .before .before .before .before .before .before .before .bracket .ensures, c .before .before .before .before .before .before .if1 .taken, ← c .before .before .before .before .before .narrow .ensures) (c .before .before .settle .ensures (look (angles (z .f) (z .c)) ended) lent then w)
+
+returns-2 : tie.Need-returns-2
+unfolding visit
+returns-2 c =
+    let z = c .before .before .before .before .args in
+    λ o lent e w.
+    rw (← c .before .bracket .ensures, c .if1 .left) (c .before .before .looked .ensures ∙ ap (further 1) e ∙ look-counts o (z .c .hi ∷ []) 1 refl, w)
+
+pub visit-spec : {M : Type 1} → statement M
+visit-spec =
+    tie.close
+    (tie.spec
+    looked-requires
+    bracket-requires
+    narrow-requires
+    looked-requires-2
+    settle-requires
+    same-length
+    returns
+    returns-2)

@@ -1,0 +1,140 @@
+// The sampled hunt (000, `intersect_arcs` where an ellipse takes part): one pass over the cells of a's span.
+mod cells;
+mod counts;
+mod narrowing;
+mod settling;
+mod values;
+
+ghost use mathlib.Core.Path.{_≡_};
+ghost use mathlib.Core.List.{List};
+ghost use Prim.Native.Nat.{_≤_, _<_, _/_, _+_, _^_};
+ghost use lib.ListN.{length};
+ghost use lib.Ieee.{Float};
+ghost use Rattle.hits.specs.Hit.{hitSize, written};
+ghost use Rattle.hunt.specs.Cells.{cells};
+ghost use Rattle.hunt.specs.Outcome.{Outcome, Small, tally, visit, scanned};
+ghost use Rattle.hunt.specs.Hunt.{early, Hunted};
+use arc::Arc;
+use arc::Radii;
+pub use cells::bracket;
+pub use cells::sample;
+use hits::CurveHit;
+pub use narrowing::narrow;
+use sine::SinCos;
+pub use values::framed;
+pub use values::value;
+
+// The two arcs with what one evaluation needs of them, worked out once: the sine and the cosine of both rotations, b's effective radii.
+pub struct Frame {
+    pub a: Arc,
+    pub b: Arc,
+    pub turn_a: SinCos,
+    pub turn_b: SinCos,
+    pub radii: Radii,
+}
+
+// A cell of a's span: its two angles and the values there.
+pub struct Cell {
+    pub lo: f64,
+    pub hi: f64,
+    pub g_lo: f64,
+    pub g_hi: f64,
+}
+
+// A bracket that is being narrowed: its two angles and the value at the first.
+pub struct Stretch {
+    pub lo: f64,
+    pub hi: f64,
+    pub g_lo: f64,
+}
+
+// What becomes of a bracket.
+pub enum Fate {
+    OutsideA,
+    OutsideB,
+    Double,
+    Hit(CurveHit),
+}
+
+// What a hunt counts. The four fates, hits among them, add up to the brackets.
+pub struct Tally {
+    pub hits: usize,
+    pub brackets: u32,
+    pub outside_a: u32,
+    pub outside_b: u32,
+    pub doubles: u32,
+    pub evaluations: u32,
+}
+
+// One cell: the tally goes in and comes back, a hit goes to the room.
+pub fn visit(f: Frame, c: Cell, t: Tally, room: &mut [f64]) -> Tally
+    requires { ⌜ Small t × (t .evaluations + 62 < 2 ^ 32) × (t .hits < length (now room) / hitSize) ⌝ }
+    ensures { λ r. ⌜ ((o : Outcome) (lent : List Float) → t ≡ tally o → now (room .entry) ≡ written (o .hits) lent → (r ≡ tally (visit f c o)) × (now (room .exit) ≡ written (visit f c o .hits) lent)) ⌝ }
+{
+    let seen = counts::looked(t, 1);
+    if bracket(c.g_lo, c.g_hi) {
+        let at = narrow(f, c);
+        return settling::settle(f, at, counts::looked(seen, 61), room);
+    }
+    seen
+}
+
+// The first n cells of the samples start + step * i.
+fn scan(f: Frame, start: f64, step: f64, n: u32, room: &mut [f64]) -> Tally
+    requires { ⌜ (n ≤ 32768) × (n ≤ length (now room) / hitSize) ⌝ }
+    ensures { λ r. ⌜ (r ≡ tally (scanned f start step n)) × (now (room .exit) ≡ written (scanned f start step n .hits) (now (room .entry))) ⌝ }
+{
+    let mut lo = start;
+    let mut g_lo = value(f, start);
+    let mut t = counts::looked(counts::none(), 1);
+    for i in 0..n {
+        let hi = sample(start, step, i + 1);
+        let g_hi = value(f, hi);
+        let c = Cell {
+            lo: lo,
+            hi: hi,
+            g_lo: g_lo,
+            g_hi: g_hi,
+        };
+        t = visit(f, c, t, room);
+        lo = hi;
+        g_lo = g_hi;
+    }
+    t
+}
+
+// Whether nothing is sampled: an ellipse of b that is too small, a span of a that is too short.
+fn early(f: Frame, span: f64) -> bool
+    ensures { λ r. ⌜ r ≡ early (f .radii) span ⌝ }
+{
+    let r = f.radii;
+    if r.a < 1e-12 {
+        return true;
+    }
+    if r.b < 1e-12 {
+        return true;
+    }
+    scalar::abs(cells::step(span, 256)) < 1e-15
+}
+
+// How many cells a depth has.
+pub fn cell_count(depth: u32) -> u32
+    requires { ⌜ depth ≤ 7 ⌝ }
+    ensures { λ r. ⌜ r ≡ cells depth ⌝ }
+{
+    cells::cells(depth)
+}
+
+// The hunt at a depth, with room for a hit in each cell.
+pub fn hunt(a: Arc, b: Arc, depth: u32, room: &mut [f64]) -> Tally
+    requires { ⌜ (depth ≤ 7) × (cells depth ≤ length (now room) / hitSize) ⌝ }
+    ensures { λ r. ⌜ Hunted a b depth (now (room .entry)) r (now (room .exit)) ⌝ }
+{
+    let f = framed(a, b);
+    let span = cells::span(a);
+    if early(f, span) {
+        return counts::none();
+    }
+    let n = cells::cells(depth);
+    scan(f, a.start, cells::step(span, n), n, room)
+}
