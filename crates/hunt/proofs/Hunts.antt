@@ -8,12 +8,18 @@ use lib.Ieee.{Float}
 use Rattle.laws.specs.Part.{part}
 use Rattle.arc.specs.declared.Arc.{Arc}
 use Rattle.arc.specs.Frame.{arcRadii}
+use Rattle.hunt.specs.declared.Frame.{Frame}
 use Rattle.hunt.specs.declared.Tally.{Tally}
 use Rattle.hunt.specs.Frame.{frame}
 use Rattle.hunt.specs.Cells.{cells, span, firstCells, bracketed}
 use Rattle.hunt.specs.Outcome.{none, scanned, fates}
 use Rattle.hunt.specs.Hunt.{early, hunted, Hunted}
 use Rattle.hunt.proofs.Outcomes.{scanned-brackets, scanned-fates, scanned-angles}
+
+-- the tests before the first sample, as the code makes them
+pub hunted-test : (a b : Arc) (f : Frame) (s : Float) (r c : Bool) → f ≡ frame a b → s ≡ span a → r ≡ early (f .radii) s → r ≡ c → early (arcRadii b) (span a) ≡ c
+unfolding frame
+hunted-test a b f s r c p q u v = sym (rw (p, q) at u) ∙ v
 
 module _ (a b : Arc) (k : ℕ) where
   pub hunted-early : early (arcRadii b) (span a) ≡ true → hunted a b k ≡ none

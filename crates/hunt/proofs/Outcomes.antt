@@ -1,11 +1,14 @@
 -- What is proved of the outcome of some cells: the fates add up to the brackets, and the angles looked at are one for each cell and 61 for each bracket. Assumes nothing.
-use mathlib.Core.Path.{_≡_, refl, ap, _∙_}
+use mathlib.Core.Path.{_≡_, refl, sym, ap, _∙_}
+use mathlib.Core.Logic.{inl, inr}
 use mathlib.Core.Bool.{Bool, true, false, cond}
 use mathlib.Core.List.{List, [], _∷_, _++_, append-nil}
 use Prim.Native.Nat.{ℕ, zero as nought, suc, _+_, _*_, _^_, _≤_, _<_}
+use native.Mathlib.Nat.{not-suc-le-zero, eq-or-lt-of-le}
 use native.Mathlib.Numerals.{add-one}
 use native.Mathlib.Omega.{arith}
-use lib.ListN.{length, length-append}
+use lib.ListN.{length, getD, length-append, List·getD-append}
+use lib.Seq.{getD-append-add}
 use lib.Ieee.{Float}
 use Rattle.hunt.specs.declared.Frame.{Frame}
 use Rattle.hunt.specs.declared.Cell.{Cell}
@@ -128,6 +131,21 @@ module _ (f : Frame) (start step : Float) where
   unfolding firstCells
   firstCells-length nought = refl
   firstCells-length (suc n) = length-append (firstCells f start step n) (cell f start step n ∷ []) ∙ ap (λ (m : ℕ). m + 1) (firstCells-length n) ∙ add-one n
+
+  -- cell i of the list is cell i, whatever stands for a place past its end
+  pub firstCells-at : (n i : ℕ) (other : Cell) → i < n → getD (firstCells f start step n) i other ≡ cell f start step i
+  unfolding firstCells
+  firstCells-at nought i other h = absurd (not-suc-le-zero h)
+  firstCells-at (suc n) i other h = elim (eq-or-lt-of-le h) [
+    | inl e ↦
+        let same : i ≡ n = omega arith in
+        let at : length (firstCells f start step n) + 0 ≡ i = omega (arith, firstCells-length n) in
+        ap (λ (k : ℕ). getD (firstCells f start step n ++ cell f start step n ∷ []) k other) (sym at) ∙ getD-append-add (firstCells f start step n) (cell f start step n ∷ []) 0 other ∙ ap (cell f start step) (sym same)
+    | inr l ↦
+        let less : i < n = omega arith in
+        let inside : i < length (firstCells f start step n) = omega (arith, firstCells-length n) in
+        List·getD-append (firstCells f start step n) (cell f start step n ∷ []) other i inside ∙ firstCells-at n i other less
+  ]
 
   pub scanned-none : scanned f start step 0 ≡ look (start ∷ []) none
   unfolding scanned firstCells visits

@@ -1,0 +1,4 @@
+-- The words in which the theorems of proofs/ are said.
+pub mod Levels
+pub mod Limits
+pub mod Promise
