@@ -1,4 +1,4 @@
--- 01, 'Forms': "If an answer is an enum, a definition states this paper's number and values for each of the enum's cases." And: "A refusal returns its number and n other value".
+-- 01, 'Forms': "If an answer is an enum, a definition states this paper's number and values for each of the enum's cases." And: "A refusal returns its number and no other value".
 -- Definitions only. Assumes nothing.
 use Prim.Native.Nat.{ℕ}
 use mathlib.Core.Bool.{cond}
@@ -21,7 +21,7 @@ pub record Answer : Type 0 where
   pub numbers : List Float
   pub counts : List ℕ
 
--- "A refusal returns its number and n other value"
+-- "A refusal returns its number and no other value"
 unfoldable pub answered : ℕ → List Float → List ℕ → Answer
 answered n numbers counts = cond (eqb n 0) (record { refusal = 0; numbers = numbers; counts = counts }) (record { refusal = n; numbers = []; counts = [] })
 

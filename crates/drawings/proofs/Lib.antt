@@ -1,0 +1,2 @@
+-- The drawings, worked out by the definitions.
+pub mod Drawings
