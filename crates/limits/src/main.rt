@@ -1,0 +1,221 @@
+// The drawings and limits of document 01 that are run: one line a case. stdout has the lines that are right.
+use arc::Arc;
+use arc::Point;
+use arcs::Curve;
+use arcs::Found;
+use arcs::Hunted;
+use arcs::Number;
+use libc::STDOUT_FILENO;
+
+fn print(words: &[u8]) {
+    io::write_all(STDOUT_FILENO, words);
+}
+
+fn print_count(words: &[u8], n: u64) {
+    print(words);
+    io::print_decimal(STDOUT_FILENO, n);
+}
+
+fn print_refused(n: u8) {
+    print_count(b"refused with ", n as u64);
+    print(b"\n");
+}
+
+fn print_number(words: &[u8], r: Number) {
+    print(words);
+    match r {
+        Number::Is(_) => print(b"taken\n"),
+        Number::Refused(n) => print_refused(n),
+    }
+}
+
+fn print_found(words: &[u8], r: Found) {
+    print(words);
+    match r {
+        Found::Hits(n) => {
+            print_count(b"hits ", n as u64);
+            print(b"\n");
+        }
+        Found::Refused(n) => print_refused(n),
+    }
+}
+
+fn print_hunted(words: &[u8], r: Hunted) {
+    print(words);
+    match r {
+        Hunted::Counts(t) => {
+            print_count(b"hits ", t.hits as u64);
+            print_count(b", brackets ", t.brackets as u64);
+            print_count(b", outside a ", t.outside_a as u64);
+            print_count(b", outside b ", t.outside_b as u64);
+            print_count(b", doubles ", t.doubles as u64);
+            print_count(b", evaluations ", t.evaluations as u64);
+            print(b"\n");
+        }
+        Hunted::Refused(n) => print_refused(n),
+    }
+}
+
+fn whole(center: Point, radius: f64, is_ellipse: bool) -> Arc {
+    Arc {
+        center: center,
+        radius: radius,
+        radius_b: radius,
+        rotation: 0.0,
+        start: 0.0,
+        end: 0.0,
+        ccw: true,
+        closed: true,
+        is_ellipse: is_ellipse,
+    }
+}
+
+fn origin() -> Point {
+    Point { x: 0.0, y: 0.0 }
+}
+
+// The distance of (x, 0) from the segment from 0 to (1, 0), and the norm of an angle.
+fn run_limits() {
+    let one = Point { x: 1.0, y: 0.0 };
+    let last = Point {
+        x: 1048576.0,
+        y: 0.0,
+    };
+    let next = Point {
+        x: scalar::from_bits(0x4130000000000001),
+        y: 0.0,
+    };
+    let unreal = Point {
+        x: scalar::from_bits(0x7ff0000000000000),
+        y: scalar::from_bits(0x4130000000000001),
+    };
+    print_number(
+        b"a coordinate of 1048576: ",
+        arcs::point_to_segment_dist(last, origin(), one),
+    );
+    print_number(
+        b"the next f64: ",
+        arcs::point_to_segment_dist(next, origin(), one),
+    );
+    print_number(
+        b"an infinity before it: ",
+        arcs::point_to_segment_dist(unreal, origin(), one),
+    );
+    print_number(b"an angle of 1024: ", arcs::norm_tau(1024.0));
+    print_number(
+        b"the next f64: ",
+        arcs::norm_tau(scalar::from_bits(0x4090000000000001)),
+    );
+    print_number(
+        b"a NaN: ",
+        arcs::norm_tau(scalar::from_bits(0x7ff8000000000000)),
+    );
+}
+
+fn run_rooms() {
+    let a = Point { x: 2.0, y: 2.0 };
+    let b = Point { x: 0.0, y: 2.0 };
+    let c = Point { x: 2.0, y: 0.0 };
+    let d = Point { x: -2.0, y: 0.0 };
+    let mut three = [0.0; 3];
+    let mut four = [0.0; 4];
+    let mut seven = [0.0; 7];
+    let mut eight = [0.0; 8];
+    print_found(
+        b"two segments, room of 4: ",
+        arcs::intersect_segments(origin(), a, b, c, &mut four),
+    );
+    print_found(
+        b"room of 3: ",
+        arcs::intersect_segments(origin(), a, b, c, &mut three),
+    );
+    print_found(
+        b"a segment and a circle, room of 8: ",
+        arcs::intersect_segment_arc(d, c, whole(origin(), 1.0, false), &mut eight),
+    );
+    print_found(
+        b"room of 7: ",
+        arcs::intersect_segment_arc(d, c, whole(origin(), 1.0, false), &mut seven),
+    );
+}
+
+fn flange() -> Arc {
+    whole(origin(), 1000.0, true)
+}
+
+fn hole() -> Arc {
+    whole(
+        Point {
+            x: 999.9247,
+            y: 12.2715,
+        },
+        10.0,
+        false,
+    )
+}
+
+fn run_gasket() {
+    let mut less = [0.0; 1023];
+    let mut room = [0.0; 1024];
+    let mut twice = [0.0; 2048];
+    print_hunted(
+        b"P10, depth 0: ",
+        arcs::intersect_arcs(flange(), hole(), 0, &mut room),
+    );
+    print_hunted(
+        b"depth 1: ",
+        arcs::intersect_arcs(flange(), hole(), 1, &mut twice),
+    );
+    print_hunted(
+        b"swapped, depth 0: ",
+        arcs::intersect_arcs(hole(), flange(), 0, &mut room),
+    );
+    print_hunted(
+        b"as curves: ",
+        arcs::intersect(Curve::Bow(hole()), Curve::Bow(flange()), 0, &mut room),
+    );
+    print_hunted(
+        b"room of 1023: ",
+        arcs::intersect_arcs(flange(), hole(), 0, &mut less),
+    );
+    print_hunted(
+        b"depth 4: ",
+        arcs::intersect_arcs(flange(), hole(), 4, &mut less),
+    );
+}
+
+// A point ellipse on b: every sample is a zero, so that every cell is a hit.
+fn on_the_circle() -> Arc {
+    whole(Point { x: 1.0, y: 0.0 }, 0.0, true)
+}
+
+fn run_full_rooms() {
+    let mut room = [0.0; 1024];
+    let mut twice = [0.0; 2048];
+    let mut more = [0.0; 4096];
+    let mut most = [0.0; 8192];
+    let circle = whole(origin(), 1.0, false);
+    print_hunted(
+        b"a point on the circle, depth 0: ",
+        arcs::intersect_arcs(on_the_circle(), circle, 0, &mut room),
+    );
+    print_hunted(
+        b"depth 1: ",
+        arcs::intersect_arcs(on_the_circle(), circle, 1, &mut twice),
+    );
+    print_hunted(
+        b"depth 2: ",
+        arcs::intersect_arcs(on_the_circle(), circle, 2, &mut more),
+    );
+    print_hunted(
+        b"depth 3: ",
+        arcs::intersect_arcs(on_the_circle(), circle, 3, &mut most),
+    );
+}
+
+fn main() {
+    run_limits();
+    run_rooms();
+    run_gasket();
+    run_full_rooms();
+}
