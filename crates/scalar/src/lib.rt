@@ -39,14 +39,14 @@ pub fn not_a_number() -> f64
     0.0 / 0.0
 }
 
-// x itself. A NaN comes back as the one that `not_a_number` gives: the proofs have one NaN, the machine many patterns.
-pub fn with_one_nan(x: f64) -> f64
-    ensures { λ r. ⌜ r ≡ x ⌝ }
+// The number itself. A NaN comes back as the one that `not_a_number` gives: the proofs have one NaN, the machine many patterns.
+pub fn with_one_nan(number: f64) -> f64
+    ensures { λ r. ⌜ r ≡ number ⌝ }
 {
-    if x != x {
+    if number != number {
         return not_a_number();
     }
-    x
+    number
 }
 
 // The bit pattern of x. Every NaN has the same one, 7ff8000000000000.

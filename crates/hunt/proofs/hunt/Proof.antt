@@ -49,10 +49,18 @@ same-length c = search needs
 
 returns-2 : tie.Need-returns-2
 returns-2 c =
-    let z = c .before .before .before .before .before .before .before .before .before .before .before .args in
-    let test = hunted-test (z .a) (z .b) _ _ _ false (c .before .before .before .before .before .before .before .before .before .framed .ensures) (c .before .before .before .before .before .before .before .before .span .ensures) (c .before .before .before .before .before .before .before .early .ensures) (c .before .before .before .before .before .before .if1 .left) in
-    let is : scanned (c .before .before .before .before .before .before .before .before .before .framed .result) (z .a .start) (c .before .before .before .before .step .result) (c .before .before .before .before .before .cells .result) ≡ hunted (z .a) (z .b) (z .depth) = rw (c .before .before .before .before .step .ensures, c .before .before .before .before .before .before .before .before .before .framed .ensures, c .before .before .before .before .before .before .before .before .span .ensures, c .before .before .before .before .before .cells .ensures) (sym (hunted-on (z .a) (z .b) (z .depth) test)) in
-    record { counts = rw (← is) (c .before .before .scan .ensures .0); hits = rw (← is) (c .before .before .scan .ensures .1) }
+    let scan = c .before .before in
+    let step = scan .before .before in
+    let cells = step .before in
+    let test = cells .before in
+    let early = test .before in
+    let span = early .before in
+    let framed = span .before in
+    let z = framed .before .before .args in
+    let on = hunted-test (z .a) (z .b) _ _ _ false (framed .framed .ensures) (span .span .ensures) (early .early .ensures) (test .if1 .left) in
+    let is : scanned (framed .framed .result) (z .a .start) (step .step .result) (cells .cells .result) ≡ hunted (z .a) (z .b) (z .depth) =
+    rw (step .step .ensures, framed .framed .ensures, span .span .ensures, cells .cells .ensures) (sym (hunted-on (z .a) (z .b) (z .depth) on)) in
+    record { counts = rw (← is) (scan .scan .ensures .0); hits = rw (← is) (scan .scan .ensures .1) }
 
 pub hunt-spec : {M : Type 1} → statement M
 hunt-spec =

@@ -67,16 +67,20 @@ loop-less c = omega arith
 
 loop-again : tie.Need-loop-again Inv-loop μ-loop
 loop-again c =
-    let z = c .before .before .before .before .before .before .before .before .before .before .before .before .args in
-    let l = c .before .before .before .before .before .before .before .loop in
+    let visited = c .before .before in
+    let valued = visited .before .before in
+    let sampled = valued .before in
+    let at = sampled .before .before in
+    let z = at .before .before .before .before .before .args in
+    let l = at .loop in
     let o = scanned (z .f) (z .start) (z .step) (l .i) in
-    let v = c .before .before .visit .ensures o (z .room .now) (l .inv .4) (l .inv .5) in
-    let same = cell-is (z .f) (z .start) (z .step) (l .i) (l .lo) (c .before .before .before .before .before .sample .result) (l .g-lo) (c .before .before .before .before .value2 .result) (l .inv .2) (c .before .before .before .before .before .sample .ensures) (l .inv .3) (c .before .before .before .before .value2 .ensures) in
+    let v = visited .visit .ensures o (z .room .now) (l .inv .4) (l .inv .5) in
+    let same = cell-is (z .f) (z .start) (z .step) (l .i) (l .lo) (sampled .sample .result) (l .g-lo) (valued .value2 .result) (l .inv .2) (sampled .sample .ensures) (l .inv .3) (valued .value2 .ensures) in
     let next = sym (scanned-more (z .f) (z .start) (z .step) (l .i)) in (
       omega arith,
-      c .before .before .visit .kept .1 .1 .1 .0 ∙ l .inv .1,
-      c .before .before .before .before .before .sample .ensures,
-      c .before .before .before .before .value2 .ensures,
+      visited .visit .kept .1 .1 .1 .0 ∙ l .inv .1,
+      sampled .sample .ensures,
+      valued .value2 .ensures,
       v .0 ∙ ap (λ (c : Cell). tally (visit (z .f) c o)) same ∙ ap tally next,
       v .1 ∙ ap (λ (c : Cell). written (visit (z .f) c o .hits) (z .room .now)) same ∙ ap (λ (x : Outcome). written (x .hits) (z .room .now)) next,
     )

@@ -31,12 +31,19 @@ same-length c = search needs
 returns : tie.Need-returns
 unfolding visit resolve
 returns c =
-    let z = c .before .before .before .before .before .before .before .before .before .before .args in
+    let settle = c .before .before in
+    let more = settle .before .before in
+    let narrow = more .before in
+    let test = narrow .before in
+    let bracket = test .before in
+    let look1 = bracket .before in
+    let z = look1 .before .before .args in
     λ o lent e w.
+    let all = angles (z .f) (z .c) in
     let ended = look (z .c .hi ∷ []) o in
-    let first : c .before .before .before .before .before .before .before .before .looked .result ≡ tally ended = c .before .before .before .before .before .before .before .before .looked .ensures ∙ ap (further 1) e ∙ look-counts o (z .c .hi ∷ []) 1 refl in
-    let then : c .before .before .before .before .looked2 .result ≡ tally (look (angles (z .f) (z .c)) ended) = c .before .before .before .before .looked2 .ensures ∙ ap (further 61) first ∙ look-counts ended (angles (z .f) (z .c)) 61 (sym (angles-length (z .f) (z .c))) in
-    rw (← c .before .before .before .before .before .before .before .bracket .ensures, c .before .before .before .before .before .before .if1 .taken, ← c .before .before .before .before .before .narrow .ensures) (c .before .before .settle .ensures (look (angles (z .f) (z .c)) ended) lent then w)
+    let first : look1 .looked .result ≡ tally ended = look1 .looked .ensures ∙ ap (further 1) e ∙ look-counts o (z .c .hi ∷ []) 1 refl in
+    let then : more .looked2 .result ≡ tally (look all ended) = more .looked2 .ensures ∙ ap (further 61) first ∙ look-counts ended all 61 (sym (angles-length (z .f) (z .c))) in
+    rw (← bracket .bracket .ensures, test .if1 .taken, ← narrow .narrow .ensures) (settle .settle .ensures (look all ended) lent then w)
 
 returns-2 : tie.Need-returns-2
 unfolding visit

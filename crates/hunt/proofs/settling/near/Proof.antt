@@ -1,3 +1,4 @@
+-- `settling::near` is 000's test of two angles. Assumes nothing.
 use Rattle.hunt.specs.Fate.{near}
 use borrow.Author.Needs.{needs}
 use Rattle.hunt.proofs.settling.near.Statement.{statement}
