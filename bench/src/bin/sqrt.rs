@@ -1,6 +1,6 @@
 //! The square root against the machine's instruction: every bit of the answer, and the time.
 //! `bench/run sqrt [SEED]`
-use bench::{bits, proved, report, seed, time, Random, NAN};
+use bench::{bits, proved, compare, report, seed, Random, NAN};
 
 struct Check {
     tried: u64,
@@ -57,7 +57,7 @@ fn main() {
     assert_eq!(proved::sqrt(-1.0).to_bits(), NAN);
 
     let xs: Vec<f64> = (0..4096).map(|_| f64::from_bits(random.bits() & digits | (0x3f0 + random.below(32)) << 52)).collect();
-    report("sqrt", time(200, &xs, proved::sqrt), time(200, &xs, |x| x.sqrt()));
+    report("sqrt", compare(200, &xs, proved::sqrt, &xs, |x: f64| x.sqrt()));
     if check.wrong > 0 {
         std::process::exit(1);
     }

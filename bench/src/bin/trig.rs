@@ -1,9 +1,9 @@
 //! Sine, cosine, arctangent and arccosine against the standard library's, on the same arguments, in one run.
 //! `bench/run trig [SEED]`. The arguments are many, so that the processor does not learn by heart which way a branch goes.
-use bench::{proved, report, seed, time, Random};
+use bench::{compare, proved, report, seed, Random};
 use std::f64::consts::{PI, TAU};
 
-const ROUNDS: u32 = 40;
+const ROUNDS: usize = 40;
 const ARGUMENTS: usize = 65_536;
 
 fn main() {
@@ -18,16 +18,14 @@ fn main() {
             let (s, c) = x.sin_cos();
             s + c
         };
-        report(&format!("sin_cos {name}"), time(ROUNDS, &xs, own), time(ROUNDS, &xs, theirs));
-        report(&format!("sin {name}"), time(ROUNDS, &xs, proved::sin), time(ROUNDS, &xs, f64::sin));
-        report(&format!("cos {name}"), time(ROUNDS, &xs, proved::cos), time(ROUNDS, &xs, f64::cos));
+        report(&format!("sin_cos {name}"), compare(ROUNDS, &xs, own, &xs, theirs));
+        report(&format!("sin {name}"), compare(ROUNDS, &xs, proved::sin, &xs, f64::sin));
+        report(&format!("cos {name}"), compare(ROUNDS, &xs, proved::cos, &xs, f64::cos));
     }
     let points: Vec<(f64, f64)> = (0..ARGUMENTS).map(|_| (random.within(1000.0), random.within(1000.0))).collect();
-    report(
-        "atan2 all quadrants",
-        time(ROUNDS, &points, |(y, x)| proved::atan2(y, x)),
-        time(ROUNDS, &points, |(y, x)| y.atan2(x)),
-    );
+    let own = |(y, x)| proved::atan2(y, x);
+    let theirs = |(y, x): (f64, f64)| y.atan2(x);
+    report("atan2 all quadrants", compare(ROUNDS, &points, own, &points, theirs));
     let cs: Vec<f64> = (0..ARGUMENTS).map(|_| random.within(1.0)).collect();
-    report("acos -1 to 1", time(ROUNDS, &cs, proved::acos), time(ROUNDS, &cs, f64::acos));
+    report("acos -1 to 1", compare(ROUNDS, &cs, proved::acos, &cs, f64::acos));
 }

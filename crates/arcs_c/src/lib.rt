@@ -1,10 +1,15 @@
 // The library for C and Rust to link: numbers and slices of numbers cross, and nothing else.
+mod crossings;
+mod lent;
+
 ghost use mathlib.Core.Path.{_≡_};
 ghost use Rattle.root.specs.SquareRoot.{squareRoot};
 ghost use Rattle.sine.specs.Rule.{sine, cosine};
 ghost use Rattle.arctan.specs.Rule.{arctangent};
 ghost use Rattle.arccos.specs.Arccos.{arccosine};
 ghost use Rattle.arcs_c.specs.Both.{refusalOfTwo, withTwo};
+
+pub use crossings::arcs_intersect_arcs;
 
 #[no_mangle]
 pub extern "C" fn arcs_sqrt(x: f64) -> f64

@@ -3,3 +3,4 @@ pub mod Sizes
 pub mod Splits
 pub mod Remainders
 pub mod Shortcuts
+pub mod Cases
