@@ -11,11 +11,11 @@ use lib.Ieee.{Float}
 use lib.Pow.{pow-pos}
 use Rattle.arc.specs.declared.Arc.{Arc}
 use Rattle.hits.specs.declared.CurveHit.{CurveHit}
-use Rattle.arcs.specs.declared.checks.Faults.{Faults}
-use Rattle.arcs.specs.Answer.{Answer, answered}
-use Rattle.arcs.specs.Crossed.{Crossed}
-use Rattle.arcs.specs.Refusal.{refusal, orLater}
-use Rattle.arcs.specs.Need.{pairNeed}
+use Rattle.checks.specs.declared.Faults.{Faults}
+use Rattle.checks.specs.Answer.{Answer, answered}
+use Rattle.queries.specs.Crossed.{Crossed}
+use Rattle.checks.specs.Refusal.{refusal, orLater}
+use Rattle.queries.specs.Need.{pairNeed}
 use Rattle.arcs_c.specs.Lent.{placed}
 use Rattle.arcs_c.specs.Exported.{HitsOut}
 

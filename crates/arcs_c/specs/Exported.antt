@@ -11,11 +11,11 @@ use Rattle.arc.specs.declared.Arc.{Arc}
 use Rattle.hits.specs.declared.CurveHit.{CurveHit}
 use Rattle.hits.specs.Hit.{written}
 use Rattle.hunt.specs.Outcome.{tally}
-use Rattle.arcs.specs.Given.{arcNumbers}
-use Rattle.arcs.specs.Refusal.{refusalOf, orLater}
-use Rattle.arcs.specs.Answer.{tallyCounts}
-use Rattle.arcs.specs.Need.{pairNeed}
-use Rattle.arcs.specs.Pairs.{pairOutcome}
+use Rattle.checks.specs.Given.{arcNumbers}
+use Rattle.checks.specs.Refusal.{refusalOf, orLater}
+use Rattle.checks.specs.Answer.{tallyCounts}
+use Rattle.queries.specs.Need.{pairNeed}
+use Rattle.queries.specs.Pairs.{pairOutcome}
 use Rattle.arcs_c.specs.Lent.{placed}
 
 -- the refusal where a room for so many numbers has the length given

@@ -2,7 +2,7 @@
 ghost use mathlib.Core.Path.{_≡_};
 ghost use Prim.Native.Nat.{_≤_};
 ghost use lib.ListN.{length};
-ghost use Rattle.arcs.specs.Answer.{huntedTold};
+ghost use Rattle.checks.specs.Answer.{huntedTold};
 ghost use Rattle.arcs_c.specs.Lent.{lentArc, placed};
 ghost use Rattle.arcs_c.specs.Exported.{ArcsOut};
 use crate::lent;
@@ -37,7 +37,15 @@ fn count(h: Hunted, counts: &mut [u64])
 
 // Hits, brackets, the brackets outside a, outside b and double, and the evaluations go to `counts`.
 #[no_mangle]
-pub extern "C" fn arcs_intersect_arcs(a: &[f64], a_marks: u32, b: &[f64], b_marks: u32, depth: u32, room: &mut [f64], counts: &mut [u64]) -> u32
+pub extern "C" fn arcs_intersect_arcs(
+    a: &[f64],
+    a_marks: u32,
+    b: &[f64],
+    b_marks: u32,
+    depth: u32,
+    room: &mut [f64],
+    counts: &mut [u64],
+) -> u32
     ensures { λ r. ⌜ ArcsOut (lentArc (now (a .entry)) «a_marks») (lentArc (now (b .entry)) «b_marks») depth (now (room .entry)) (now (counts .entry)) r (now (room .exit)) (now (counts .exit)) ⌝ }
 {
     let p = lent::arc(a, a_marks);

@@ -8,7 +8,6 @@ ghost use Rattle.sine.specs.Rule.{sine, cosine};
 ghost use Rattle.arctan.specs.Rule.{arctangent};
 ghost use Rattle.arccos.specs.Arccos.{arccosine};
 ghost use Rattle.arcs_c.specs.Both.{refusalOfTwo, withTwo};
-
 pub use crossings::arcs_intersect_arcs;
 
 #[no_mangle]

@@ -19,7 +19,7 @@ use Rattle.hits.specs.Hit.{flat}
 use Rattle.line.specs.Segments.{intersectSegments, onSegment}
 use Rattle.crossing.specs.SegmentArc.{intersectSegmentArc, segmentHit, unitRoots}
 use Rattle.crossing.specs.Circles.{intersectCircleCircle, candidates, candidate, halfChord}
-use Rattle.arcs.specs.Pairs.{pairOutcome}
+use Rattle.queries.specs.Pairs.{pairOutcome}
 use Rattle.drawings.specs.Drawing.{Drawing, found}
 use Rattle.drawings.specs.Table.{drawings}
 

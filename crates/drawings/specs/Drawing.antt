@@ -7,9 +7,9 @@ use Rattle.arc.specs.declared.Arc.{Arc}
 use Rattle.hits.specs.Hit.{flat}
 use Rattle.laws.specs.Literal.{zero}
 use Rattle.scalar.specs.Angles.{tau}
-use Rattle.arcs.specs.declared.curves.Curve.{Curve}
-use Rattle.arcs.specs.declared.curves.Curve.the-variants.{Segment, Bow}
-use Rattle.arcs.specs.Curves.{curvesOutcome}
+use Rattle.queries.specs.declared.curves.Curve.{Curve}
+use Rattle.queries.specs.declared.curves.Curve.the-variants.{Segment, Bow}
+use Rattle.queries.specs.Curves.{curvesOutcome}
 
 -- the hits by the bits of t_a, t_b, x and y, one hit after the other
 pub record Drawing : Type 0 where

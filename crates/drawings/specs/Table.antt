@@ -2,7 +2,7 @@
 use mathlib.Core.List.{List, [], _∷_}
 use lib.Ieee.{Float, binary64, ofBits, neg}
 use Rattle.laws.specs.Literal.{zero, one, two}
-use Rattle.arcs.specs.declared.curves.Curve.the-variants.{Segment}
+use Rattle.queries.specs.declared.curves.Curve.the-variants.{Segment}
 use Rattle.drawings.specs.Drawing.{Drawing, circle}
 
 -- 1.5, 3, 5 and 6

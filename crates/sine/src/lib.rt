@@ -72,19 +72,20 @@ pub fn sin_cos(x: f64) -> SinCos
     near_zero(x, t)
 }
 
-// The sine of x.
+// The sine of x. It splits the angle itself: with one caller alone `split` is no function of its own, and the compiler makes a jump of 102 ways of its table.
 pub fn sin(x: f64) -> f64
     ensures { λ r. ⌜ r ≡ sine x ⌝ }
 {
-    let t = turned_units(x);
-    if SINE_SMALL <= t.angle {
-        return steps::float(t.sine, x < 0.0);
+    let n = angle::angle(x);
+    let p = angle::split(n);
+    if SINE_SMALL <= n {
+        let t = steps::turned(p.node_sine, p.node_cosine, p.versine, p.sine, p.under);
+        return steps::float(t, x < 0.0);
     }
-    let both = near_zero(x, t);
-    both.sin
+    scalar::with_one_nan(x % TAU)
 }
 
-// The cosine of x.
+// The cosine of x. A second caller of `turned_units`, for the same reason.
 pub fn cos(x: f64) -> f64
     ensures { λ r. ⌜ r ≡ cosine x ⌝ }
 {

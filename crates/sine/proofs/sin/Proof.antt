@@ -2,31 +2,51 @@
 use mathlib.Core.Path.{_∙_}
 use native.Mathlib.Omega.{arith}
 use borrow.Author.Needs.{needs}
-use Rattle.sine.proofs.Cases.{sine-turned}
+use Rattle.sine.specs.Angle.{tau}
+use Rattle.sine.proofs.Cases.{sine-turned, sine-remainder}
 use Rattle.sine.proofs.Sizes.{sine-units-lt}
+use Rattle.sine.proofs.Splits.{node-sine-small, node-cosine-small, versine-small, sine-small, parts-sine}
 use Rattle.sine.proofs.sin.Statement.{statement}
 use Rattle.sine.proofs.sin.Tie as tie
 
-turned-units-requires : tie.Need-turned-units-requires
-turned-units-requires c κs = search needs
+angle-requires : tie.Need-angle-requires
+angle-requires c κs = search needs
+
+split-requires : tie.Need-split-requires
+split-requires c κs = search needs
+
+turned-requires : tie.Need-turned-requires
+turned-requires c κs =
+    let p = c .before .split .ensures in
+    (node-sine-small p, node-cosine-small p, versine-small p, sine-small p)
 
 float-requires : tie.Need-float-requires
 float-requires c κs =
-    let t = c .before .before .turned-units in
-    omega (arith, sine-units-lt (t .result .angle), t .ensures .1)
+    omega (arith, sine-units-lt (c .before .before .before .angle .result), c .turned .ensures ∙ parts-sine (c .before .before .split .ensures))
 
 returns : tie.Need-returns
 returns c =
-    let t = c .before .before .before .turned-units in
-    c .float .ensures ∙ rw (t .ensures .1) (sine-turned (c .before .before .before .before .args .x) (t .result .angle) (t .ensures .0) (omega arith))
+    let n = c .before .before .before .before .angle in
+    c .float .ensures
+    ∙ rw (c .before .turned .ensures ∙ parts-sine (c .before .before .before .split .ensures)) (sine-turned (c .before .before .before .before .before .args .x) (n .result) (n .ensures .0) (omega arith))
 
-near-zero-requires : tie.Need-near-zero-requires
-near-zero-requires c κs =
-    let t = c .before .before .turned-units .ensures in
-    (t .0, omega arith, t .2)
+with-one-nan-requires : tie.Need-with-one-nan-requires
+with-one-nan-requires c κs = search needs
 
 returns-2 : tie.Need-returns-2
-returns-2 c = c .near-zero .ensures .0
+unfolding tau
+returns-2 c =
+    let n = c .before .before .before .angle in
+    c .with-one-nan .ensures ∙ sine-remainder (c .before .before .before .before .args .x) (n .result) (n .ensures .0) (omega arith)
 
 pub sin-spec : {M : Type 1} → statement M
-sin-spec = tie.close (tie.spec turned-units-requires float-requires returns near-zero-requires returns-2)
+sin-spec =
+    tie.close
+    (tie.spec
+    angle-requires
+    split-requires
+    turned-requires
+    float-requires
+    returns
+    with-one-nan-requires
+    returns-2)

@@ -4,11 +4,11 @@ use mathlib.Core.List.{_++_}
 use native.Mathlib.Omega.{arith}
 use lib.ListN.{length}
 use Rattle.hunt.specs.Outcome.{tally}
-use Rattle.arcs.specs.Given.{arcNumbers, tested}
-use Rattle.arcs.specs.Refusal.{refusalOf, unfaulted}
-use Rattle.arcs.specs.Answer.{huntedTold, tallyCounts}
-use Rattle.arcs.specs.Need.{pairNeed}
-use Rattle.arcs.specs.Pairs.{pairOutcome}
+use Rattle.checks.specs.Given.{arcNumbers, tested}
+use Rattle.checks.specs.Refusal.{refusalOf, unfaulted}
+use Rattle.checks.specs.Answer.{huntedTold, tallyCounts}
+use Rattle.queries.specs.Need.{pairNeed}
+use Rattle.queries.specs.Pairs.{pairOutcome}
 use Rattle.arcs_c.proofs.Rooms.{hits-out, hits-short, refusal-short, pair-needs}
 use borrow.Author.Needs.{needs}
 use Rattle.arcs_c.proofs.crossings.arcs_intersect_arcs.Statement.{statement}

@@ -1,4 +1,0 @@
--- What is proved of the definitions in specs/.
-pub mod Tested
-pub mod Rooms
-pub mod Outcomes

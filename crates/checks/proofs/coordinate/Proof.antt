@@ -1,0 +1,19 @@
+-- `checks::coordinate` meets its contract: finite is what lies below infinity in size. Assumes nothing.
+use borrow.Author.Needs.{needs}
+use Rattle.checks.specs.Given.{tested}
+use Rattle.checks.proofs.Tested.{finite-size}
+use Rattle.checks.proofs.coordinate.Statement.{statement}
+use Rattle.checks.proofs.coordinate.Tie as tie
+
+abs-requires : tie.Need-abs-requires
+abs-requires c κs = search needs
+
+infinity-requires : tie.Need-infinity-requires
+infinity-requires c κs = search needs
+
+returns : tie.Need-returns
+unfolding tested
+returns c = rw (c .before .before .infinity .ensures, c .before .before .before .abs .ensures, finite-size)
+
+pub coordinate-spec : {M : Type 1} → statement M
+coordinate-spec = tie.close (tie.spec abs-requires infinity-requires returns)

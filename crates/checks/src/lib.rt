@@ -1,0 +1,128 @@
+// The checks of a call, in 01's order: 1 over all its numbers, then 2, 3, 4; and what the calls answer. specs/Answer.antt says the number and the values of each answer.
+ghost use mathlib.Core.Path.{_≡_};
+ghost use mathlib.Core.List.{[], _∷_};
+ghost use lib.Ieee.{inf};
+ghost use mathlib.Core.Bool.{false};
+ghost use Rattle.checks.specs.Given.{coordinate, angle, tested, point, arcNumbers};
+ghost use Rattle.checks.specs.Refusal.{refusal, unfaulted};
+ghost use Rattle.checks.specs.Answer.{answered, numberTold, pairTold};
+use arc::Arc;
+use arc::Point;
+use hunt::Tally;
+
+// What the numbers tested so far have shown.
+pub struct Faults {
+    pub unreal: bool,
+    pub beyond: bool,
+}
+
+fn infinity() -> f64
+    ensures { λ r. ⌜ r ≡ inf false ⌝ }
+{
+    1.0 / 0.0
+}
+
+pub fn none() -> Faults
+    ensures { λ r. ⌜ r ≡ unfaulted ⌝ }
+{
+    Faults {
+        unreal: false,
+        beyond: false,
+    }
+}
+
+// A coordinate, a radius, a part of a direction or a bulge.
+pub fn coordinate(f: Faults, x: f64) -> Faults
+    ensures { λ r. ⌜ r ≡ tested f (coordinate x ∷ []) ⌝ }
+{
+    let size = scalar::abs(x);
+    Faults {
+        unreal: f.unreal | !(size < infinity()),
+        beyond: f.beyond | (1048576.0 < size),
+    }
+}
+
+pub fn angle(f: Faults, x: f64) -> Faults
+    ensures { λ r. ⌜ r ≡ tested f (angle x ∷ []) ⌝ }
+{
+    let size = scalar::abs(x);
+    Faults {
+        unreal: f.unreal | !(size < infinity()),
+        beyond: f.beyond | (1024.0 < size),
+    }
+}
+
+pub fn point(f: Faults, p: Point) -> Faults
+    ensures { λ r. ⌜ r ≡ tested f (point p) ⌝ }
+{
+    coordinate(coordinate(f, p.x), p.y)
+}
+
+// All seven numbers, whatever the marks.
+pub fn arc(f: Faults, a: Arc) -> Faults
+    ensures { λ r. ⌜ r ≡ tested f (arcNumbers a) ⌝ }
+{
+    let c = a.center;
+    let radii = coordinate(coordinate(point(f, c), a.radius), a.radius_b);
+    angle(angle(angle(radii, a.rotation), a.start), a.end)
+}
+
+// The number of the first check that fails, and 0 where none does.
+pub fn refusal(f: Faults, depth: u32, need: usize, room: usize) -> u8
+    ensures { λ r. ⌜ r ≡ refusal f depth need room ⌝ }
+{
+    if f.unreal {
+        return 1;
+    }
+    if f.beyond {
+        return 2;
+    }
+    if 3 < depth {
+        return 3;
+    }
+    if room < need {
+        return 4;
+    }
+    0
+}
+
+pub enum Number {
+    Is(f64),
+    Refused(u8),
+}
+
+// A position, a direction or two radii.
+pub enum Pair {
+    Are(f64, f64),
+    Refused(u8),
+}
+
+// How many hits were written to the room.
+pub enum Found {
+    Hits(usize),
+    Refused(u8),
+}
+
+// What was written to the room, with what the hunt counted; all but the hits are 0 where nothing is sampled.
+pub enum Hunted {
+    Counts(Tally),
+    Refused(u8),
+}
+
+pub fn as_number(no: u8, x: f64) -> Number
+    ensures { λ r. ⌜ numberTold r ≡ answered no (x ∷ []) [] ⌝ }
+{
+    if no == 0 {
+        return Number::Is(x);
+    }
+    Number::Refused(no)
+}
+
+pub fn as_pair(no: u8, p: Point) -> Pair
+    ensures { λ r. ⌜ pairTold r ≡ answered no (p .x ∷ p .y ∷ []) [] ⌝ }
+{
+    if no == 0 {
+        return Pair::Are(p.x, p.y);
+    }
+    Pair::Refused(no)
+}

@@ -1,0 +1,11 @@
+use mathlib.Core.Path.{refl}
+use Rattle.earc_fit.specs.Axes.{centerOf}
+use Rattle.earc_fit.proofs.axes.center.Statement.{statement}
+use Rattle.earc_fit.proofs.axes.center.Tie as tie
+
+returns : tie.Need-returns
+unfolding centerOf
+returns c = refl
+
+pub center-spec : {M : Type 1} → statement M
+center-spec = tie.close (tie.spec returns)

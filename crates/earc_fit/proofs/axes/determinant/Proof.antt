@@ -1,0 +1,11 @@
+use mathlib.Core.Path.{refl}
+use Rattle.earc_fit.specs.Axes.{determinant}
+use Rattle.earc_fit.proofs.axes.determinant.Statement.{statement}
+use Rattle.earc_fit.proofs.axes.determinant.Tie as tie
+
+returns : tie.Need-returns
+unfolding determinant
+returns c = refl
+
+pub determinant-spec : {M : Type 1} → statement M
+determinant-spec = tie.close (tie.spec returns)

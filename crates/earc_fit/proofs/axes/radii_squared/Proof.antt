@@ -1,0 +1,11 @@
+use mathlib.Core.Path.{refl}
+use Rattle.earc_fit.specs.Axes.{radiiSquared}
+use Rattle.earc_fit.proofs.axes.radii_squared.Statement.{statement}
+use Rattle.earc_fit.proofs.axes.radii_squared.Tie as tie
+
+returns : tie.Need-returns
+unfolding radiiSquared
+returns c = refl
+
+pub radii-squared-spec : {M : Type 1} → statement M
+radii-squared-spec = tie.close (tie.spec returns)

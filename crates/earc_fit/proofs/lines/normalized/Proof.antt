@@ -1,0 +1,21 @@
+use mathlib.Core.Path.{refl}
+use Rattle.earc_fit.specs.Lines.{normalized}
+use borrow.Author.Needs.{needs}
+use Rattle.earc_fit.proofs.lines.normalized.Statement.{statement}
+use Rattle.earc_fit.proofs.lines.normalized.Tie as tie
+
+array-read-t6 : tie.Need-array-read-t6
+array-read-t6 c = search needs
+
+array-read-t10 : tie.Need-array-read-t10
+array-read-t10 c = search needs
+
+array-read-t14 : tie.Need-array-read-t14
+array-read-t14 c = search needs
+
+returns : tie.Need-returns
+unfolding normalized
+returns c = refl
+
+pub normalized-spec : {M : Type 1} → statement M
+normalized-spec = tie.close (tie.spec array-read-t6 array-read-t10 array-read-t14 returns)

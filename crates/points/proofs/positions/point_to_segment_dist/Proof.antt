@@ -1,0 +1,42 @@
+use Rattle.checks.specs.Given.{tested}
+use borrow.Author.Needs.{needs}
+use Rattle.points.proofs.positions.point_to_segment_dist.Statement.{statement}
+use Rattle.points.proofs.positions.point_to_segment_dist.Tie as tie
+
+none-requires : tie.Need-none-requires
+none-requires c κs = search needs
+
+point-requires : tie.Need-point-requires
+point-requires c κs = search needs
+
+point-requires-2 : tie.Need-point-requires-2
+point-requires-2 c κs = search needs
+
+point-requires-3 : tie.Need-point-requires-3
+point-requires-3 c κs = search needs
+
+refusal-requires : tie.Need-refusal-requires
+refusal-requires c κs = search needs
+
+point-to-segment-dist-requires : tie.Need-point-to-segment-dist-requires
+point-to-segment-dist-requires c κs = search needs
+
+as-number-requires : tie.Need-as-number-requires
+as-number-requires c κs = search needs
+
+returns : tie.Need-returns
+unfolding tested
+returns c = rw (c .as-number .ensures, c .before .point-to-segment-dist .ensures, c .before .before .refusal .ensures, c .before .before .before .point3 .ensures, c .before .before .before .before .point2 .ensures, c .before .before .before .before .before .point .ensures, c .before .before .before .before .before .before .none .ensures)
+
+pub point-to-segment-dist-spec : {M : Type 1} → statement M
+point-to-segment-dist-spec =
+    tie.close
+    (tie.spec
+    none-requires
+    point-requires
+    point-requires-2
+    point-requires-3
+    refusal-requires
+    point-to-segment-dist-requires
+    as-number-requires
+    returns)

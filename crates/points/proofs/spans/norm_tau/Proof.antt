@@ -1,0 +1,34 @@
+use Rattle.checks.specs.Given.{tested}
+use borrow.Author.Needs.{needs}
+use Rattle.points.proofs.spans.norm_tau.Statement.{statement}
+use Rattle.points.proofs.spans.norm_tau.Tie as tie
+
+none-requires : tie.Need-none-requires
+none-requires c κs = search needs
+
+angle-requires : tie.Need-angle-requires
+angle-requires c κs = search needs
+
+refusal-requires : tie.Need-refusal-requires
+refusal-requires c κs = search needs
+
+norm-tau-requires : tie.Need-norm-tau-requires
+norm-tau-requires c κs = search needs
+
+as-number-requires : tie.Need-as-number-requires
+as-number-requires c κs = search needs
+
+returns : tie.Need-returns
+unfolding tested
+returns c = rw (c .as-number .ensures, c .before .norm-tau .ensures, c .before .before .refusal .ensures, c .before .before .before .angle .ensures, c .before .before .before .before .none .ensures)
+
+pub norm-tau-spec : {M : Type 1} → statement M
+norm-tau-spec =
+    tie.close
+    (tie.spec
+    none-requires
+    angle-requires
+    refusal-requires
+    norm-tau-requires
+    as-number-requires
+    returns)

@@ -1,0 +1,84 @@
+// Spans and parameters (part 3).
+ghost use mathlib.Core.Path.{_≡_};
+ghost use mathlib.Core.List.{[], _∷_, _++_};
+ghost use Rattle.arc.specs.Span.{normTau, arcParamInSpan};
+ghost use Rattle.arc.specs.Frame.{arcRadii, arcThetaOfPos, arcParamAtPoint};
+ghost use Rattle.checks.specs.Given.{angle, point, arcNumbers};
+ghost use Rattle.checks.specs.Refusal.{refusalOf, orLater};
+ghost use Rattle.checks.specs.Answer.{answered, numberTold, pairTold};
+ghost use Rattle.points.specs.InSpan.{spanRefusal, spanNumber};
+use arc::Arc;
+use arc::InSpan;
+use arc::Point;
+use checks::Number;
+use checks::Pair;
+
+pub fn norm_tau(v: f64) -> Number
+    ensures { λ r. ⌜ numberTold r ≡ answered (refusalOf (angle v ∷ []) 0 0 0) (normTau v ∷ []) [] ⌝ }
+{
+    checks::as_number(
+        checks::refusal(checks::angle(checks::none(), v), 0, 0, 0),
+        arc::norm_tau(v),
+    )
+}
+
+fn outside(s: InSpan) -> u8
+    ensures { λ r. ⌜ r ≡ spanRefusal s ⌝ }
+{
+    match s {
+        InSpan::At(_) => 0,
+        InSpan::Outside => 6,
+    }
+}
+
+// 6 for an angle outside the span, after the numbers' own refusals.
+fn span_refusal(no: u8, s: InSpan) -> u8
+    ensures { λ r. ⌜ r ≡ orLater no (spanRefusal s) ⌝ }
+{
+    let later = outside(s);
+    if no == 0 {
+        return later;
+    }
+    no
+}
+
+fn span_number(s: InSpan) -> f64
+    ensures { λ r. ⌜ r ≡ spanNumber s ⌝ }
+{
+    match s {
+        InSpan::At(t) => t,
+        InSpan::Outside => 0.0,
+    }
+}
+
+pub fn arc_param_in_span(a: Arc, theta: f64) -> Number
+    ensures { λ r. ⌜ numberTold r ≡ answered (orLater (refusalOf (arcNumbers a ++ angle theta ∷ []) 0 0 0) (spanRefusal (arcParamInSpan a theta))) (spanNumber (arcParamInSpan a theta) ∷ []) [] ⌝ }
+{
+    let f = checks::angle(checks::arc(checks::none(), a), theta);
+    let s = arc::arc_param_in_span(a, theta);
+    checks::as_number(span_refusal(checks::refusal(f, 0, 0, 0), s), span_number(s))
+}
+
+pub fn arc_radii(a: Arc) -> Pair
+    ensures { λ r. ⌜ pairTold r ≡ answered (refusalOf (arcNumbers a) 0 0 0) (arcRadii a .a ∷ arcRadii a .b ∷ []) [] ⌝ }
+{
+    let r = arc::arc_radii(a);
+    checks::as_pair(
+        checks::refusal(checks::arc(checks::none(), a), 0, 0, 0),
+        Point { x: r.a, y: r.b },
+    )
+}
+
+pub fn arc_theta_of_pos(a: Arc, p: Point) -> Number
+    ensures { λ r. ⌜ numberTold r ≡ answered (refusalOf (arcNumbers a ++ point p) 0 0 0) (arcThetaOfPos a p ∷ []) [] ⌝ }
+{
+    let f = checks::point(checks::arc(checks::none(), a), p);
+    checks::as_number(checks::refusal(f, 0, 0, 0), arc::arc_theta_of_pos(a, p))
+}
+
+pub fn arc_param_at_point(a: Arc, p: Point) -> Number
+    ensures { λ r. ⌜ numberTold r ≡ answered (refusalOf (arcNumbers a ++ point p) 0 0 0) (arcParamAtPoint a p ∷ []) [] ⌝ }
+{
+    let f = checks::point(checks::arc(checks::none(), a), p);
+    checks::as_number(checks::refusal(f, 0, 0, 0), arc::arc_param_at_point(a, p))
+}

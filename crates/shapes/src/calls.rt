@@ -1,0 +1,97 @@
+// Distances, nearest parameters, arcs and circles from points, the conic fit (parts 7 to 9).
+ghost use mathlib.Core.Path.{_≡_};
+ghost use mathlib.Core.List.{[], _∷_, _++_};
+ghost use Rattle.checks.specs.Given.{coordinate, angle, point, arcNumbers};
+ghost use Rattle.checks.specs.Refusal.{refusalOf};
+ghost use Rattle.checks.specs.Answer.{answered, withheld, numberTold};
+ghost use Rattle.nearest.specs.ArcDist.{pointToArcDist};
+ghost use Rattle.nearest.specs.ArcParam.{nearestArcParam};
+ghost use Rattle.construct.specs.Conversion.{svgArcToCenter};
+ghost use Rattle.construct.specs.Circumscribed.{circumscribedArc};
+ghost use Rattle.construct.specs.TangentCircle.{circleTangentThrough};
+ghost use Rattle.earc_fit.specs.Fit.{fitEarcTangent};
+ghost use Rattle.shapes.specs.Shape.{nearTold, distanceTold, conversionTold, centerTold, threePointTold, throughTold, tangentCircleTold, tangentTold, fitTold, fittedTold};
+use crate::answers;
+use crate::answers::Center;
+use crate::answers::Distance;
+use crate::answers::FittedArc;
+use crate::answers::Tangent;
+use crate::answers::Through;
+use arc::Arc;
+use arc::Point;
+use checks::Number;
+
+pub fn point_to_arc_dist(p: Point, a: Arc) -> Distance
+    ensures { λ r. ⌜ distanceTold r ≡ withheld (refusalOf (point p ++ arcNumbers a) 0 0 0) (nearTold (pointToArcDist p a)) ⌝ }
+{
+    let f = checks::arc(checks::point(checks::none(), p), a);
+    answers::as_distance(
+        checks::refusal(f, 0, 0, 0),
+        nearest::point_to_arc_dist(p, a),
+    )
+}
+
+pub fn nearest_arc_param(a: Arc, p: Point) -> Number
+    ensures { λ r. ⌜ numberTold r ≡ answered (refusalOf (arcNumbers a ++ point p) 0 0 0) (nearestArcParam a p ∷ []) [] ⌝ }
+{
+    let f = checks::point(checks::arc(checks::none(), a), p);
+    checks::as_number(
+        checks::refusal(f, 0, 0, 0),
+        nearest::nearest_arc_param(a, p),
+    )
+}
+
+pub fn svg_arc_to_center(
+    p1: Point,
+    p2: Point,
+    rx: f64,
+    ry: f64,
+    rotation: f64,
+    large_arc: bool,
+    sweep: bool,
+) -> Center
+    ensures { λ r. ⌜ centerTold r ≡ withheld (refusalOf (point p1 ++ point p2 ++ coordinate rx ∷ coordinate ry ∷ angle rotation ∷ []) 0 0 0) (conversionTold (svgArcToCenter p1 p2 rx ry rotation «large_arc» sweep)) ⌝ }
+{
+    let ends = checks::point(checks::point(checks::none(), p1), p2);
+    let f = checks::angle(
+        checks::coordinate(checks::coordinate(ends, rx), ry),
+        rotation,
+    );
+    answers::as_center(
+        checks::refusal(f, 0, 0, 0),
+        construct::svg_arc_to_center(p1, p2, rx, ry, rotation, large_arc, sweep),
+    )
+}
+
+pub fn circumscribed_arc(p1: Point, p2: Point, p3: Point) -> Through
+    ensures { λ r. ⌜ throughTold r ≡ withheld (refusalOf (point p1 ++ point p2 ++ point p3) 0 0 0) (threePointTold (circumscribedArc p1 p2 p3)) ⌝ }
+{
+    let f = checks::point(checks::point(checks::point(checks::none(), p1), p2), p3);
+    answers::as_through(
+        checks::refusal(f, 0, 0, 0),
+        construct::circumscribed_arc(p1, p2, p3),
+    )
+}
+
+// t is a direction.
+pub fn circle_tangent_through(s: Point, e: Point, t: Point) -> Tangent
+    ensures { λ r. ⌜ tangentTold r ≡ withheld (refusalOf (point s ++ point e ++ point t) 0 0 0) (tangentCircleTold (circleTangentThrough s e t)) ⌝ }
+{
+    let f = checks::point(checks::point(checks::point(checks::none(), s), e), t);
+    answers::as_tangent(
+        checks::refusal(f, 0, 0, 0),
+        construct::circle_tangent_through(s, e, t),
+    )
+}
+
+// t1 and t2 are directions.
+pub fn fit_earc_tangent(p1: Point, t1: Point, p2: Point, t2: Point, bulge: f64) -> FittedArc
+    ensures { λ r. ⌜ fittedTold r ≡ withheld (refusalOf (point p1 ++ point t1 ++ point p2 ++ point t2 ++ coordinate bulge ∷ []) 0 0 0) (fitTold (fitEarcTangent p1 t1 p2 t2 bulge)) ⌝ }
+{
+    let first = checks::point(checks::point(checks::none(), p1), t1);
+    let f = checks::coordinate(checks::point(checks::point(first, p2), t2), bulge);
+    answers::as_fitted(
+        checks::refusal(f, 0, 0, 0),
+        earc_fit::fit_earc_tangent(p1, t1, p2, t2, bulge),
+    )
+}
