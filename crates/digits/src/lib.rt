@@ -1,0 +1,1 @@
+// The digits of numbers as bytes of ASCII.
