@@ -1,4 +1,4 @@
--- P1 to P7: each row's hits are those that the definitions give, worked out by the checker itself. Assumes nothing.
+-- P1 to P9: each row's numbers are those that the definitions give, worked out by the checker itself. Assumes nothing.
 use mathlib.Core.Path.{_≡_, refl}
 use mathlib.Core.List.{map}
 use lib.Ieee.{ofBits, toBits, ofFields, add, sub, mul, div, rem, neg, lt, le, eq, sum, round, odd, units, size, span, climb, ofInt, toUnsigned, isNan}
@@ -19,10 +19,13 @@ use Rattle.hits.specs.Hit.{flat}
 use Rattle.line.specs.Segments.{intersectSegments, onSegment}
 use Rattle.crossing.specs.SegmentArc.{intersectSegmentArc, segmentHit, unitRoots}
 use Rattle.crossing.specs.Circles.{intersectCircleCircle, candidates, candidate, halfChord}
+use Rattle.construct.specs.Root.{rootOfSquares}
+use Rattle.construct.specs.Circumscribed.{circumscribedArc, circumcenter, bearing}
+use Rattle.construct.specs.TangentCircle.{circleTangentThrough}
 use Rattle.queries.specs.Pairs.{pairOutcome}
 use Rattle.drawings.specs.Drawing.{Drawing, found}
 use Rattle.drawings.specs.Table.{drawings}
 
-pub drawings-found : map found drawings ≡ map (λ d. d .hits) drawings
-unfolding found drawings flat pairOutcome intersectSegments onSegment intersectSegmentArc segmentHit unitRoots intersectCircleCircle candidates candidate halfChord arcParamInSpan normTau within arcRadii abs clamp squareRoot rootUnits digit floorRoot nearestRoot sine cosine angle.tau angle.units arctangent ratio edgeOf edgeSize angleOf floatOf arcOf unitsAt placeOf seriesAt upperSteps lastStep fineStep roughStep rough high sizeOf rowAt rowFrom plain raised table coefsAt ofBits toBits ofFields add sub mul div rem neg lt le eq sum round odd units size span climb ofInt toUnsigned isNan
+pub drawings-found : map (λ d. found (d .call)) drawings ≡ map (λ d. d .gives) drawings
+unfolding found drawings circumscribedArc circumcenter bearing circleTangentThrough rootOfSquares flat pairOutcome intersectSegments onSegment intersectSegmentArc segmentHit unitRoots intersectCircleCircle candidates candidate halfChord arcParamInSpan normTau within arcRadii abs clamp squareRoot rootUnits digit floorRoot nearestRoot sine cosine angle.tau angle.units arctangent ratio edgeOf edgeSize angleOf floatOf arcOf unitsAt placeOf seriesAt upperSteps lastStep fineStep roughStep rough high sizeOf rowAt rowFrom plain raised table coefsAt ofBits toBits ofFields add sub mul div rem neg lt le eq sum round odd units size span climb ofInt toUnsigned isNan
 drawings-found = refl

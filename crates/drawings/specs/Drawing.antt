@@ -1,21 +1,32 @@
--- 01, 'Checked drawings': "Drawings with * are theorems of the definitions, held as one table." A drawing has two curves and the numbers of its hits. Definitions only. Assumes nothing.
+-- 01, 'Checked drawings': "Drawings with * are theorems of the definitions, held as one table." A drawing has a call and the numbers that it gives. Definitions only. Assumes nothing.
 use Prim.Native.Nat.{ℕ}
 use mathlib.Core.Bool.{true, false}
-use mathlib.Core.List.{List, map}
+use mathlib.Core.List.{List, map, _++_}
 use lib.Ieee.{Float, binary64, toBits}
-use Rattle.arc.specs.declared.Arc.{Arc}
-use Rattle.hits.specs.Hit.{flat}
 use Rattle.laws.specs.Literal.{zero}
 use Rattle.scalar.specs.Angles.{tau}
+use Rattle.arc.specs.declared.Point.{Point}
+use Rattle.arc.specs.declared.Arc.{Arc}
+use Rattle.hits.specs.Hit.{flat}
+use Rattle.construct.specs.Circumscribed.{circumscribedArc}
+use Rattle.construct.specs.TangentCircle.{circleTangentThrough}
+use Rattle.checks.specs.Answer.{Answer}
 use Rattle.queries.specs.declared.curves.Curve.{Curve}
 use Rattle.queries.specs.declared.curves.Curve.the-variants.{Segment, Bow}
 use Rattle.queries.specs.Curves.{curvesOutcome}
+use Rattle.shapes.specs.Shape.{threePointTold, tangentCircleTold}
 
--- the hits by the bits of t_a, t_b, x and y, one hit after the other
+pub data Call : Type 0 where
+  cross : Curve → Curve → Call
+  circleThrough arcThrough : Point → Point → Point → Call
+
+-- hits by the bits of t_a, t_b, x and y, one hit after the other; other answers by the bits of their numbers, then the mark ccw
 pub record Drawing : Type 0 where
-  pub first : Curve
-  pub second : Curve
-  pub hits : List ℕ
+  pub call : Call
+  pub gives : List ℕ
+
+abbrev pub at : Float → Float → Point
+at x y = record { x = x; y = y }
 
 -- "Rotation 0, closed circles start at 0."
 abbrev pub circle : Float → Float → Float → Curve
@@ -32,7 +43,12 @@ circle x y r =
       «is_ellipse» = false;
     })
 
--- what the definition of the query finds at depth 0
-unfoldable pub found : Drawing → List ℕ
+abbrev pub told : Answer → List ℕ
+told a = map (toBits binary64) (a .numbers) ++ a .counts
+
+-- what the definitions give, a query at depth 0
+unfoldable pub found : Call → List ℕ
 unfolding flat
-found d = map (toBits binary64) (flat (curvesOutcome (d .first) (d .second) 0 .hits))
+found (cross a b) = map (toBits binary64) (flat (curvesOutcome a b 0 .hits))
+found (circleThrough s e t) = told (tangentCircleTold (circleTangentThrough s e t))
+found (arcThrough p1 p2 p3) = told (threePointTold (circumscribedArc p1 p2 p3))
