@@ -44,7 +44,7 @@ returns c =
     let is : c .before .before .before .before .before .refusal .result ≡ refusalOf (arcNumbers (a .a) ++ arcNumbers (a .b)) (a .depth) (pairNeed (a .a) (a .b) (a .depth)) (length (a .room .now)) =
     c .before .before .before .before .before .refusal .ensures
     ∙ refusal-need _ (a .depth) _ (pairNeed (a .a) (a .b) (a .depth)) _ (c .before .before .before .before .before .before .need .ensures)
-    ∙ rw (c .before .before .before .before .before .before .before .arc2 .ensures, c .before .before .before .before .before .before .before .before .arc .ensures, c .before .before .before .before .before .before .before .before .before .none .ensures) refl in
+    ∙ rw (c .before .before .before .before .before .before .before .arc2 .ensures, c .before .before .before .before .before .before .before .before .arc .ensures, c .before .before .before .before .before .before .before .before .before .none .ensures) (refl {a = refusalOf (arcNumbers (a .a) ++ arcNumbers (a .b)) (a .depth) (pairNeed (a .a) (a .b) (a .depth)) (length (a .room .now))}) in
     rw (c .before .before .pair .ensures .0, c .before .before .pair .ensures .1) (crossed-done _ _ _ _ _ (sym is ∙ c .before .before .before .before .if1 .taken) refl)
 
 returns-2 : tie.Need-returns-2
@@ -55,7 +55,7 @@ returns-2 c =
     let is : c .before .refusal .result ≡ refusalOf (arcNumbers (a .a) ++ arcNumbers (a .b)) (a .depth) (pairNeed (a .a) (a .b) (a .depth)) (length (a .room .now)) =
     c .before .refusal .ensures
     ∙ refusal-need _ (a .depth) _ (pairNeed (a .a) (a .b) (a .depth)) _ (c .before .before .need .ensures)
-    ∙ rw (c .before .before .before .arc2 .ensures, c .before .before .before .before .arc .ensures, c .before .before .before .before .before .none .ensures) refl in
+    ∙ rw (c .before .before .before .arc2 .ensures, c .before .before .before .before .arc .ensures, c .before .before .before .before .before .none .ensures) (refl {a = refusalOf (arcNumbers (a .a) ++ arcNumbers (a .b)) (a .depth) (pairNeed (a .a) (a .b) (a .depth)) (length (a .room .now))}) in
     rw (← is) (crossed-refused _ _ _ _ (c .if1 .left))
 
 pub intersect-arcs-spec : {M : Type 1} → statement M

@@ -44,7 +44,7 @@ unfolding tested
 returns c =
     let a = c .before .before .before .before .before .before .before .before .before .before .before .before .args in
     let is : c .before .before .before .before .before .before .refusal .result ≡ refusalOf (point (a .p1) ++ point (a .p2) ++ arcNumbers (a .a)) 0 closedNeed (length (a .room .now)) =
-    rw (c .before .before .before .before .before .before .refusal .ensures, c .before .before .before .before .before .before .before .arc .ensures, c .before .before .before .before .before .before .before .before .point2 .ensures, c .before .before .before .before .before .before .before .before .before .point .ensures, c .before .before .before .before .before .before .before .before .before .before .none .ensures) refl in
+    rw (c .before .before .before .before .before .before .refusal .ensures, c .before .before .before .before .before .before .before .arc .ensures, c .before .before .before .before .before .before .before .before .point2 .ensures, c .before .before .before .before .before .before .before .before .before .point .ensures, c .before .before .before .before .before .before .before .before .before .before .none .ensures) (refl {a = refusalOf (point (a .p1) ++ point (a .p2) ++ arcNumbers (a .a)) 0 closedNeed (length (a .room .now))}) in
     rw (c .before .before .write .ensures .0, c .before .before .write .ensures .1, c .before .before .before .before .intersect-segment-arc .ensures)
     (crossed-done _ _ _ _ _ (sym is ∙ c .before .before .before .before .before .if1 .taken) refl)
 
@@ -53,7 +53,7 @@ unfolding tested
 returns-2 c =
     let a = c .before .before .before .before .before .before .before .args in
     let is : c .before .refusal .result ≡ refusalOf (point (a .p1) ++ point (a .p2) ++ arcNumbers (a .a)) 0 closedNeed (length (a .room .now)) =
-    rw (c .before .refusal .ensures, c .before .before .arc .ensures, c .before .before .before .point2 .ensures, c .before .before .before .before .point .ensures, c .before .before .before .before .before .none .ensures) refl in
+    rw (c .before .refusal .ensures, c .before .before .arc .ensures, c .before .before .before .point2 .ensures, c .before .before .before .before .point .ensures, c .before .before .before .before .before .none .ensures) (refl {a = refusalOf (point (a .p1) ++ point (a .p2) ++ arcNumbers (a .a)) 0 closedNeed (length (a .room .now))}) in
     rw (← is) (crossed-refused _ _ _ _ (c .if1 .left))
 
 pub intersect-segment-arc-spec : {M : Type 1} → statement M

@@ -47,7 +47,7 @@ unfolding tested
 returns c =
     let a = c .before .before .before .before .before .before .before .before .before .before .before .before .before .before .args in
     let is : c .before .before .before .before .before .before .before .refusal .result ≡ refusalOf (point (a .a1) ++ point (a .a2) ++ point (a .b1) ++ point (a .b2)) 0 segmentsNeed (length (a .room .now)) =
-    rw (c .before .before .before .before .before .before .before .refusal .ensures, c .before .before .before .before .before .before .before .before .point4 .ensures, c .before .before .before .before .before .before .before .before .before .point3 .ensures, c .before .before .before .before .before .before .before .before .before .before .point2 .ensures, c .before .before .before .before .before .before .before .before .before .before .before .point .ensures, c .before .before .before .before .before .before .before .before .before .before .before .before .none .ensures) refl in
+    rw (c .before .before .before .before .before .before .before .refusal .ensures, c .before .before .before .before .before .before .before .before .point4 .ensures, c .before .before .before .before .before .before .before .before .before .point3 .ensures, c .before .before .before .before .before .before .before .before .before .before .point2 .ensures, c .before .before .before .before .before .before .before .before .before .before .before .point .ensures, c .before .before .before .before .before .before .before .before .before .before .before .before .none .ensures) (refl {a = refusalOf (point (a .a1) ++ point (a .a2) ++ point (a .b1) ++ point (a .b2)) 0 segmentsNeed (length (a .room .now))}) in
     rw (c .before .before .write .ensures .0, c .before .before .write .ensures .1, c .before .before .before .before .one .ensures, c .before .before .before .before .before .intersect-segments .ensures)
     (crossed-done _ _ _ _ _ (sym is ∙ c .before .before .before .before .before .before .if1 .taken) refl)
 
@@ -56,7 +56,7 @@ unfolding tested
 returns-2 c =
     let a = c .before .before .before .before .before .before .before .before .args in
     let is : c .before .refusal .result ≡ refusalOf (point (a .a1) ++ point (a .a2) ++ point (a .b1) ++ point (a .b2)) 0 segmentsNeed (length (a .room .now)) =
-    rw (c .before .refusal .ensures, c .before .before .point4 .ensures, c .before .before .before .point3 .ensures, c .before .before .before .before .point2 .ensures, c .before .before .before .before .before .point .ensures, c .before .before .before .before .before .before .none .ensures) refl in
+    rw (c .before .refusal .ensures, c .before .before .point4 .ensures, c .before .before .before .point3 .ensures, c .before .before .before .before .point2 .ensures, c .before .before .before .before .before .point .ensures, c .before .before .before .before .before .before .none .ensures) (refl {a = refusalOf (point (a .a1) ++ point (a .a2) ++ point (a .b1) ++ point (a .b2)) 0 segmentsNeed (length (a .room .now))}) in
     rw (← is) (crossed-refused _ _ _ _ (c .if1 .left))
 
 pub intersect-segments-spec : {M : Type 1} → statement M
