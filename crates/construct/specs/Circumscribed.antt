@@ -10,7 +10,7 @@ use Rattle.arc.specs.declared.Point.{Point}
 use Rattle.arc.specs.Span.{normTau}
 use Rattle.construct.specs.declared.ThreePoint.{ThreePoint}
 use Rattle.construct.specs.declared.ThreePoint.the-variants.{Is, Degenerate}
-use Rattle.construct.specs.Root.{rootOfSquares}
+use Rattle.root.specs.Norm.{norm}
 
 -- `(ay - uy).atan2(ax - ux)`: the angle of p as seen from u
 unfoldable pub bearing : Point → Point → Float
@@ -38,7 +38,7 @@ circumscribedArc a b c =
     cond (lt (abs d) ten⁻¹²) Degenerate
     (Is (record {
       center = u;
-      radius = rootOfSquares (a .x ⊖ u .x) (a .y ⊖ u .y);
+      radius = norm (a .x ⊖ u .x) (a .y ⊖ u .y);
       start = sa;
       end = ea;
       ccw = lt (normTau (ma ⊖ sa)) (normTau (ea ⊖ sa));

@@ -1,5 +1,4 @@
 -- What the contracts of the crate cite.
-pub mod Root
 pub mod OutOfRange
 pub mod Svg
 pub mod Conversion

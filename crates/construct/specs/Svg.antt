@@ -15,7 +15,7 @@ use Rattle.arctan.specs.Rule.{arctangent}
 use Rattle.arccos.specs.Arccos.{arccosine}
 use Rattle.arc.specs.declared.Point.{Point}
 use Rattle.arc.specs.declared.Radii.{Radii}
-use Rattle.construct.specs.Root.{rootOfSquares}
+use Rattle.root.specs.Norm.{norm}
 
 -- F.6.5.1: (x1', y1') is [cos φ, sin φ; -sin φ, cos φ] times ((x1 - x2) / 2, (y1 - y2) / 2).
 unfoldable pub primed : Point → Point → Float → Float → Point
@@ -59,7 +59,7 @@ turnedBack p1 p2 sin cos c =
 unfoldable pub angle : Point → Point → Float
 angle u v =
     let dot = u .x ⊗ v .x ⊕ u .y ⊗ v .y in
-    let len = rootOfSquares (u .x) (u .y) ⊗ rootOfSquares (v .x) (v .y) in
+    let len = norm (u .x) (u .y) ⊗ norm (v .x) (v .y) in
     let a = arccosine (clamp (dot ⊘ len) (neg one) one) in
     let cross = u .x ⊗ v .y ⊖ u .y ⊗ v .x in
     cond (lt cross zero) (neg a) a

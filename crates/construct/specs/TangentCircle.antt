@@ -8,12 +8,12 @@ use Rattle.laws.specs.Size.{abs}
 use Rattle.arc.specs.declared.Point.{Point}
 use Rattle.construct.specs.declared.TangentCircle.{TangentCircle}
 use Rattle.construct.specs.declared.TangentCircle.the-variants.{Is, Degenerate}
-use Rattle.construct.specs.Root.{rootOfSquares}
+use Rattle.root.specs.Norm.{norm}
 
 -- None for a tangent without direction, then None for an end on the tangent
 unfoldable pub circleTangentThrough : Point → Point → Point → TangentCircle
 circleTangentThrough s e t =
-    let tl = rootOfSquares (t .x) (t .y) in
+    let tl = norm (t .x) (t .y) in
     let n : Point = record { x = neg (t .y) ⊘ tl; y = t .x ⊘ tl } in
     let dx = e .x ⊖ s .x in
     let dy = e .y ⊖ s .y in

@@ -4,8 +4,6 @@ mod svg;
 mod tangent;
 mod three_points;
 
-ghost use mathlib.Core.Path.{_≡_};
-ghost use Rattle.construct.specs.Root.{rootOfSquares};
 use arc::Point;
 pub use center::svg_arc_to_center;
 pub use tangent::circle_tangent_through;
@@ -47,11 +45,4 @@ pub struct Circle {
 pub enum TangentCircle {
     Is(Circle),
     Degenerate,
-}
-
-// The length of a vector.
-fn root_of_squares(x: f64, y: f64) -> f64
-    ensures { λ r. ⌜ r ≡ rootOfSquares x y ⌝ }
-{
-    root::sqrt(x * x + y * y)
 }

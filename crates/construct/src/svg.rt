@@ -108,7 +108,7 @@ pub fn angle(u: Point, v: Point) -> f64
     ensures { λ r. ⌜ r ≡ angle u v ⌝ }
 {
     let dot = u.x * v.x + u.y * v.y;
-    let len = crate::root_of_squares(u.x, u.y) * crate::root_of_squares(v.x, v.y);
+    let len = root::norm(u.x, u.y) * root::norm(v.x, v.y);
     let a = arccos::acos(scalar::clamp(dot / len, -1.0, 1.0));
     let cross = u.x * v.y - u.y * v.x;
     if cross < 0.0 { -a } else { a }

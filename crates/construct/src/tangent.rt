@@ -8,7 +8,7 @@ use arc::Point;
 pub fn circle_tangent_through(s: Point, e: Point, t: Point) -> TangentCircle
     ensures { λ r. ⌜ r ≡ circleTangentThrough s e t ⌝ }
 {
-    let tl = crate::root_of_squares(t.x, t.y);
+    let tl = root::norm(t.x, t.y);
     if tl < 1e-12 {
         return TangentCircle::Degenerate;
     }

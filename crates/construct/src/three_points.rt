@@ -37,7 +37,7 @@ pub fn circumscribed_arc(p1: Point, p2: Point, p3: Point) -> ThreePoint
     let ma = bearing(u, p3);
     ThreePoint::Is(Circumscribed {
         center: u,
-        radius: crate::root_of_squares(p1.x - u.x, p1.y - u.y),
+        radius: root::norm(p1.x - u.x, p1.y - u.y),
         start: sa,
         end: ea,
         ccw: arc::norm_tau(ma - sa) < arc::norm_tau(ea - sa),

@@ -6,6 +6,7 @@ use Rattle.laws.specs.Rounded.{_⊕_, _⊖_, _⊗_, _⊘_}
 use Rattle.laws.specs.Literal.{zero, two, ten⁻⁹, ten⁻¹²}
 use Rattle.laws.specs.Size.{abs}
 use Rattle.root.specs.SquareRoot.{squareRoot}
+use Rattle.root.specs.Norm.{norm}
 use Rattle.arctan.specs.Rule.{arctangent}
 use Rattle.arc.specs.declared.Point.{Point}
 use Rattle.arc.specs.declared.Arc.{Arc}
@@ -40,7 +41,7 @@ intersectCircleCircle a b =
     let r2 = b .radius in
     let dx = b .center .x ⊖ a .center .x in
     let dy = b .center .y ⊖ a .center .y in
-    let d = squareRoot (dx ⊗ dx ⊕ dy ⊗ dy) in
+    let d = norm dx dy in
     let tol = ten⁻⁹ ⊗ (r1 ⊕ r2 ⊕ d) in
     let along = (r1 ⊗ r1 ⊖ r2 ⊗ r2 ⊕ d ⊗ d) ⊘ (two ⊗ d) in
     let h = halfChord (r1 ⊗ r1 ⊖ along ⊗ along) in

@@ -53,7 +53,7 @@ pub fn intersect_circle_circle(a: Arc, b: Arc) -> Crossings
     let r2 = b.radius;
     let dx = b.center.x - a.center.x;
     let dy = b.center.y - a.center.y;
-    let d = root::sqrt(dx * dx + dy * dy);
+    let d = root::norm(dx, dy);
     if d < 1e-12 {
         return Crossings::None;
     }

@@ -19,7 +19,7 @@ use Rattle.hits.specs.Hit.{flat}
 use Rattle.line.specs.Segments.{intersectSegments, onSegment}
 use Rattle.crossing.specs.SegmentArc.{intersectSegmentArc, segmentHit, unitRoots}
 use Rattle.crossing.specs.Circles.{intersectCircleCircle, candidates, candidate, halfChord}
-use Rattle.construct.specs.Root.{rootOfSquares}
+use Rattle.root.specs.Norm.{norm}
 use Rattle.construct.specs.Circumscribed.{circumscribedArc, circumcenter, bearing}
 use Rattle.construct.specs.TangentCircle.{circleTangentThrough}
 use Rattle.queries.specs.Pairs.{pairOutcome}
@@ -27,5 +27,5 @@ use Rattle.drawings.specs.Drawing.{Drawing, found}
 use Rattle.drawings.specs.Table.{drawings}
 
 pub drawings-found : map (λ d. found (d .call)) drawings ≡ map (λ d. d .gives) drawings
-unfolding found drawings circumscribedArc circumcenter bearing circleTangentThrough rootOfSquares flat pairOutcome intersectSegments onSegment intersectSegmentArc segmentHit unitRoots intersectCircleCircle candidates candidate halfChord arcParamInSpan normTau within arcRadii abs clamp squareRoot rootUnits digit floorRoot nearestRoot sine cosine angle.tau angle.units arctangent ratio edgeOf edgeSize angleOf floatOf arcOf unitsAt placeOf seriesAt upperSteps lastStep fineStep roughStep rough high sizeOf rowAt rowFrom plain raised table coefsAt ofBits toBits ofFields add sub mul div rem neg lt le eq sum round odd units size span climb ofInt toUnsigned isNan
+unfolding found drawings circumscribedArc circumcenter bearing circleTangentThrough norm flat pairOutcome intersectSegments onSegment intersectSegmentArc segmentHit unitRoots intersectCircleCircle candidates candidate halfChord arcParamInSpan normTau within arcRadii abs clamp squareRoot rootUnits digit floorRoot nearestRoot sine cosine angle.tau angle.units arctangent ratio edgeOf edgeSize angleOf floatOf arcOf unitsAt placeOf seriesAt upperSteps lastStep fineStep roughStep rough high sizeOf rowAt rowFrom plain raised table coefsAt ofBits toBits ofFields add sub mul div rem neg lt le eq sum round odd units size span climb ofInt toUnsigned isNan
 drawings-found = refl

@@ -9,7 +9,8 @@ use Rattle.arc.specs.declared.Point.{Point}
 use Rattle.earc_fit.specs.declared.Fit.{Fit}
 use Rattle.earc_fit.specs.declared.Fit.the-variants.{Is, Degenerate}
 use Rattle.earc_fit.specs.declared.conic.Conic.{Conic}
-use Rattle.earc_fit.specs.Lines.{_!_, norm, lineThrough, normalized, lineValue}
+use Rattle.root.specs.Norm.{norm}
+use Rattle.earc_fit.specs.Lines.{_!_, lineThrough, normalized, lineValue}
 use Rattle.earc_fit.specs.Lines as lines
 use Rattle.earc_fit.specs.Target.{bulgeSign, targetMid}
 use Rattle.earc_fit.specs.Conic.{conicMatrix}

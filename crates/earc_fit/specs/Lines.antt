@@ -5,7 +5,6 @@ use mathlib.Core.List.{List, [], _∷_}
 use lib.ListN.{getD}
 use lib.Ieee.{Float, nan, neg}
 use Rattle.laws.specs.Rounded.{_⊕_, _⊖_, _⊗_, _⊘_}
-use Rattle.root.specs.SquareRoot.{squareRoot}
 use Rattle.arc.specs.declared.Point.{Point}
 
 -- the number at a place of a line. Every line here has three.
@@ -15,9 +14,6 @@ l ! i = getD l i nan
 
 unfoldable pub chord : Point → Point → Point
 chord p1 p2 = record { x = p2 .x ⊖ p1 .x; y = p2 .y ⊖ p1 .y }
-
-unfoldable pub norm : Float → Float → Float
-norm x y = squareRoot (x ⊗ x ⊕ y ⊗ y)
 
 -- the line through p in the direction t
 unfoldable pub lineThrough : Point → Point → List Float

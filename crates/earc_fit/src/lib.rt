@@ -52,12 +52,12 @@ pub fn fit_earc_tangent(p1: Point, t1: Point, p2: Point, t2: Point, bulge: f64) 
     ensures { λ r. ⌜ r ≡ fitEarcTangent p1 t1 p2 t2 bulge ⌝ }
 {
     let chord = lines::chord(p1, p2);
-    let chord_len = lines::norm(chord.x, chord.y);
+    let chord_len = root::norm(chord.x, chord.y);
     if chord_len < 1e-12 {
         return Fit::Degenerate;
     }
     let m = lines::line_through(p1, chord);
-    let m_len = lines::norm(m[0], m[1]);
+    let m_len = root::norm(m[0], m[1]);
     if m_len < 1e-12 {
         return Fit::Degenerate;
     }

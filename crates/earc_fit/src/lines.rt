@@ -1,6 +1,6 @@
 // Lines as [a, b, c], those of ax + by + c = 0.
 ghost use mathlib.Core.Path.{_≡_};
-ghost use Rattle.earc_fit.specs.Lines.{chord, norm, lineThrough, normalized, lineValue};
+ghost use Rattle.earc_fit.specs.Lines.{chord, lineThrough, normalized, lineValue};
 use arc::Point;
 
 pub fn chord(p1: Point, p2: Point) -> Point
@@ -10,12 +10,6 @@ pub fn chord(p1: Point, p2: Point) -> Point
         x: p2.x - p1.x,
         y: p2.y - p1.y,
     }
-}
-
-pub fn norm(x: f64, y: f64) -> f64
-    ensures { λ r. ⌜ r ≡ norm x y ⌝ }
-{
-    root::sqrt(x * x + y * y)
 }
 
 // The line through p in the direction t.

@@ -1,14 +1,14 @@
 -- 000, `project_onto_segment` and `point_to_segment_dist` ("Distance from a sketch-space point to a line segment"), operation by operation. Definitions only. Assumes nothing.
 use mathlib.Core.Bool.{cond}
 use lib.Ieee.{Float, lt}
-use Rattle.laws.specs.Rounded.{_⊕_, _⊖_, _⊗_, _⊘_, square}
+use Rattle.laws.specs.Rounded.{_⊕_, _⊖_, _⊗_, _⊘_}
 use Rattle.laws.specs.Literal.{zero, one, ten⁻¹²}
 use Rattle.scalar.specs.Clamp.{clamp}
-use Rattle.root.specs.SquareRoot.{squareRoot}
+use Rattle.root.specs.Norm.{norm}
 use Rattle.arc.specs.declared.Point.{Point}
 
 unfoldable pub distance : Point → Point → Float
-distance p q = squareRoot (square (p .x ⊖ q .x) ⊕ square (p .y ⊖ q .y))
+distance p q = norm (p .x ⊖ q .x) (p .y ⊖ q .y)
 
 -- the parameter of the foot of p, clamped to the segment
 unfoldable pub along : Point → Point → Float → Float → Float → Float

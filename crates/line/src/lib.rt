@@ -11,9 +11,7 @@ use hits::CurveHit;
 pub fn distance(p: Point, q: Point) -> f64
     ensures { λ r. ⌜ r ≡ distance p q ⌝ }
 {
-    let dx = p.x - q.x;
-    let dy = p.y - q.y;
-    root::sqrt(dx * dx + dy * dy)
+    root::norm(p.x - q.x, p.y - q.y)
 }
 
 // The parameter of the point of a segment nearest to p, where len2 is the segment's length squared.

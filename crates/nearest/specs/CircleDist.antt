@@ -5,7 +5,7 @@ use lib.Ieee.{Float, lt, le}
 use Rattle.laws.specs.Rounded.{_⊕_, _⊖_, _⊗_, _⊘_}
 use Rattle.laws.specs.Literal.{ten⁻¹²}
 use Rattle.laws.specs.Size.{abs}
-use Rattle.root.specs.SquareRoot.{squareRoot}
+use Rattle.root.specs.Norm.{norm}
 use Rattle.sine.specs.Rule.{sine, cosine}
 use Rattle.arctan.specs.Rule.{arctangent}
 use Rattle.arc.specs.declared.Point.{Point}
@@ -14,9 +14,6 @@ use Rattle.arc.specs.ArcPoint.{arcStartPos, arcEndPos}
 use Rattle.arc.specs.Span.{normTau}
 use Rattle.line.specs.Project.{distance}
 use Rattle.nearest.specs.declared.Near.{Near}
-
-unfoldable pub distToCenter : Float → Float → Float
-distToCenter dx dy = squareRoot (dx ⊗ dx ⊕ dy ⊗ dy)
 
 -- `((dist_to_center - r).abs(), proj)`, d being the distance to the center
 unfoldable pub onRay : Arc → Float → Float → Float → Near
@@ -28,7 +25,7 @@ onRay a dx dy d =
 unfoldable pub wholeDist : Arc → Float → Float → Near
 wholeDist a dx dy =
     let r = a .radius in
-    let d = distToCenter dx dy in
+    let d = norm dx dy in
     cond (lt d ten⁻¹²) (record { dist = r; pos = record { x = a .center .x ⊕ r; y = a .center .y } })
     (onRay a dx dy d)
 
@@ -53,7 +50,7 @@ endDist p a =
 unfoldable pub partDist : Point → Arc → Float → Float → Near
 partDist p a dx dy =
     let r = a .radius in
-    let d = distToCenter dx dy in
+    let d = norm dx dy in
     let angle = arctangent dy dx in
     cond (inRange a angle)
     (cond (lt d ten⁻¹²)

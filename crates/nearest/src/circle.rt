@@ -1,17 +1,10 @@
 // The distance of a point from a circular arc. The point stands at (dx, dy) from the center.
 ghost use mathlib.Core.Path.{_≡_};
-ghost use Rattle.nearest.specs.CircleDist.{distToCenter, onRay, wholeDist, inRange, endDist, partDist};
+ghost use Rattle.nearest.specs.CircleDist.{onRay, wholeDist, inRange, endDist, partDist};
 use crate::Near;
 use crate::points;
 use arc::Arc;
 use arc::Point;
-
-// A root is slow, so it is worked out only where it is asked for.
-fn dist_to_center(dx: f64, dy: f64) -> f64
-    ensures { λ r. ⌜ r ≡ distToCenter dx dy ⌝ }
-{
-    root::sqrt(dx * dx + dy * dy)
-}
 
 // The circle's point in the direction of a point that is d from the center.
 fn on_ray(a: Arc, dx: f64, dy: f64, d: f64) -> Near
@@ -30,7 +23,7 @@ fn on_ray(a: Arc, dx: f64, dy: f64, d: f64) -> Near
 pub fn whole_dist(a: Arc, dx: f64, dy: f64) -> Near
     ensures { λ r. ⌜ r ≡ wholeDist a dx dy ⌝ }
 {
-    let d = dist_to_center(dx, dy);
+    let d = root::norm(dx, dy);
     if d < 1e-12 {
         return Near {
             dist: a.radius,
@@ -80,7 +73,7 @@ pub fn part_dist(p: Point, a: Arc, dx: f64, dy: f64) -> Near
 {
     let angle = arctan::atan2(dy, dx);
     if in_range(a, angle) {
-        let d = dist_to_center(dx, dy);
+        let d = root::norm(dx, dy);
         if d < 1e-12 {
             let at = sine::sin_cos(angle);
             return Near {

@@ -1,6 +1,7 @@
 // Square root of an f64, as IEEE 754 has it, worked out with whole numbers.
 ghost use mathlib.Core.Path.{_≡_};
 ghost use Rattle.root.specs.SquareRoot.{squareRoot};
+ghost use Rattle.root.specs.Norm.{norm};
 
 mod newton;
 mod pattern;
@@ -22,4 +23,11 @@ pub fn sqrt(x: f64) -> f64
         return x;
     }
     scalar::not_a_number()
+}
+
+// The length of a vector.
+pub fn norm(x: f64, y: f64) -> f64
+    ensures { λ r. ⌜ r ≡ norm x y ⌝ }
+{
+    sqrt(x * x + y * y)
 }

@@ -22,8 +22,8 @@ bearing-requires-2 c κs = search needs
 bearing-requires-3 : tie.Need-bearing-requires-3
 bearing-requires-3 c κs = search needs
 
-root-of-squares-requires : tie.Need-root-of-squares-requires
-root-of-squares-requires c κs = search needs
+norm-requires : tie.Need-norm-requires
+norm-requires c κs = search needs
 
 norm-tau-requires : tie.Need-norm-tau-requires
 norm-tau-requires c κs = search needs
@@ -33,7 +33,7 @@ norm-tau-requires-2 c κs = search needs
 
 returns-2 : tie.Need-returns-2
 unfolding circumscribedArc
-returns-2 c = rw (← c .before .before .before .before .before .before .before .before .before .before .before .before .abs .ensures, c .before .before .before .before .before .before .before .before .before .before .before .if1 .left, ← c .before .before .before .before .before .before .before .before .before .before .circumcenter .ensures, ← c .before .before .before .before .before .before .before .before .before .bearing .ensures, ← c .before .before .before .before .before .before .before .before .bearing2 .ensures, ← c .before .before .before .before .before .before .before .bearing3 .ensures, ← c .before .before .root-of-squares .ensures, ← c .before .norm-tau .ensures, ← c .norm-tau2 .ensures)
+returns-2 c = rw (← c .before .before .before .before .before .before .before .before .before .before .before .before .abs .ensures, c .before .before .before .before .before .before .before .before .before .before .before .if1 .left, ← c .before .before .before .before .before .before .before .before .before .before .circumcenter .ensures, ← c .before .before .before .before .before .before .before .before .before .bearing .ensures, ← c .before .before .before .before .before .before .before .before .bearing2 .ensures, ← c .before .before .before .before .before .before .before .bearing3 .ensures, ← c .before .before .norm .ensures, ← c .before .norm-tau .ensures, ← c .norm-tau2 .ensures)
 
 pub circumscribed-arc-spec : {M : Type 1} → statement M
 circumscribed-arc-spec =
@@ -45,7 +45,7 @@ circumscribed-arc-spec =
     bearing-requires
     bearing-requires-2
     bearing-requires-3
-    root-of-squares-requires
+    norm-requires
     norm-tau-requires
     norm-tau-requires-2
     returns-2)

@@ -10,22 +10,22 @@ atan2-requires c κs = search needs
 in-range-requires : tie.Need-in-range-requires
 in-range-requires c κs = search needs
 
-dist-to-center-requires : tie.Need-dist-to-center-requires
-dist-to-center-requires c κs = search needs
+norm-requires : tie.Need-norm-requires
+norm-requires c κs = search needs
 
 sin-cos-requires : tie.Need-sin-cos-requires
 sin-cos-requires c κs = search needs
 
 returns : tie.Need-returns
 unfolding partDist
-returns c = rw (← c .before .before .before .before .before .before .before .before .before .before .before .atan2 .ensures, ← c .before .before .before .before .before .before .before .before .before .before .in-range .ensures, c .before .before .before .before .before .before .before .before .before .if1 .taken, ← c .before .before .before .before .before .before .before .before .dist-to-center .ensures, c .before .before .before .before .before .before .before .if2 .taken, ← c .before .before .before .before .before .before .sin-cos .ensures .0, ← c .before .before .before .before .before .before .sin-cos .ensures .1)
+returns c = rw (← c .before .before .before .before .before .before .before .before .before .before .before .atan2 .ensures, ← c .before .before .before .before .before .before .before .before .before .before .in-range .ensures, c .before .before .before .before .before .before .before .before .before .if1 .taken, ← c .before .before .before .before .before .before .before .before .norm .ensures, c .before .before .before .before .before .before .before .if2 .taken, ← c .before .before .before .before .before .before .sin-cos .ensures .0, ← c .before .before .before .before .before .before .sin-cos .ensures .1)
 
 on-ray-requires : tie.Need-on-ray-requires
 on-ray-requires c κs = search needs
 
 returns-2 : tie.Need-returns-2
 unfolding partDist
-returns-2 c = rw (← c .before .before .before .before .before .atan2 .ensures, ← c .before .before .before .before .in-range .ensures, c .before .before .before .if1 .taken, ← c .before .before .dist-to-center .ensures, c .before .if2 .left, ← c .on-ray .ensures)
+returns-2 c = rw (← c .before .before .before .before .before .atan2 .ensures, ← c .before .before .before .before .in-range .ensures, c .before .before .before .if1 .taken, ← c .before .before .norm .ensures, c .before .if2 .left, ← c .on-ray .ensures)
 
 end-dist-requires : tie.Need-end-dist-requires
 end-dist-requires c κs = search needs
@@ -40,7 +40,7 @@ part-dist-spec =
     (tie.spec
     atan2-requires
     in-range-requires
-    dist-to-center-requires
+    norm-requires
     sin-cos-requires
     returns
     on-ray-requires

@@ -1,7 +1,8 @@
-use Rattle.earc_fit.specs.Lines.{norm}
+-- `root::norm` meets its contract. Assumes nothing.
 use borrow.Author.Needs.{needs}
-use Rattle.earc_fit.proofs.lines.norm.Statement.{statement}
-use Rattle.earc_fit.proofs.lines.norm.Tie as tie
+use Rattle.root.specs.Norm.{norm}
+use Rattle.root.proofs.norm.Statement.{statement}
+use Rattle.root.proofs.norm.Tie as tie
 
 sqrt-requires : tie.Need-sqrt-requires
 sqrt-requires c κs = search needs
