@@ -1,3 +1,4 @@
+-- `hits::both` meets its contract. Assumes nothing.
 use borrow.Author.Needs.{needs}
 use Rattle.hits.proofs.both.Statement.{statement}
 use Rattle.hits.proofs.both.Tie as tie

@@ -1,3 +1,4 @@
+-- `hits::one` meets its contract. Assumes nothing.
 use borrow.Author.Needs.{needs}
 use Rattle.hits.proofs.one.Statement.{statement}
 use Rattle.hits.proofs.one.Tie as tie

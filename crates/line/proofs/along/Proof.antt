@@ -1,8 +1,8 @@
+-- `line::along` meets its contract. Assumes nothing.
 use Rattle.line.specs.Project.{along}
 use borrow.Author.Needs.{needs}
 use Rattle.line.proofs.along.Statement.{statement}
 use Rattle.line.proofs.along.Tie as tie
-use Rattle.scalar.proofs.clamp.Reads as clamp-reads
 
 clamp-requires : tie.Need-clamp-requires
 clamp-requires c κs = search needs

@@ -1,3 +1,4 @@
+-- `line::distance` meets its contract. Assumes nothing.
 use Rattle.line.specs.Project.{distance}
 use borrow.Author.Needs.{needs}
 use Rattle.line.proofs.distance.Statement.{statement}

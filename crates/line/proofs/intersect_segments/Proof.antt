@@ -1,9 +1,8 @@
+-- `line::intersect_segments` meets its contract. Assumes nothing.
 use Rattle.line.specs.Segments.{intersectSegments}
 use borrow.Author.Needs.{needs}
 use Rattle.line.proofs.intersect_segments.Statement.{statement}
 use Rattle.line.proofs.intersect_segments.Tie as tie
-use Rattle.scalar.proofs.abs.Reads as abs-reads
-use Rattle.scalar.proofs.clamp.Reads as clamp-reads
 
 abs-requires : tie.Need-abs-requires
 abs-requires c κs = search needs

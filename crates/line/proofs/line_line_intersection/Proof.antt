@@ -1,8 +1,8 @@
+-- `line::line_line_intersection` meets its contract. Assumes nothing.
 use Rattle.line.specs.Lines.{lineLineIntersection}
 use borrow.Author.Needs.{needs}
 use Rattle.line.proofs.line_line_intersection.Statement.{statement}
 use Rattle.line.proofs.line_line_intersection.Tie as tie
-use Rattle.scalar.proofs.abs.Reads as abs-reads
 
 abs-requires : tie.Need-abs-requires
 abs-requires c κs = search needs

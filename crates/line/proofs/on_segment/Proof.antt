@@ -1,3 +1,4 @@
+-- `line::on_segment` meets its contract. Assumes nothing.
 use mathlib.Core.Path.{refl}
 use Rattle.line.specs.Segments.{onSegment}
 use Rattle.line.proofs.on_segment.Statement.{statement}

@@ -1,3 +1,4 @@
+-- `line::point_to_segment_dist` meets its contract. Assumes nothing.
 use Rattle.line.specs.Project.{pointToSegmentDist}
 use borrow.Author.Needs.{needs}
 use Rattle.line.proofs.point_to_segment_dist.Statement.{statement}

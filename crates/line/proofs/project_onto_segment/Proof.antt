@@ -1,3 +1,4 @@
+-- `line::project_onto_segment` meets its contract. Assumes nothing.
 use Rattle.line.specs.Project.{projectOntoSegment}
 use borrow.Author.Needs.{needs}
 use Rattle.line.proofs.project_onto_segment.Statement.{statement}

@@ -1,10 +1,8 @@
+-- `arc::span::arc_param_at_point` meets its contract. Assumes nothing.
 use Rattle.arc.specs.Frame.{arcParamAtPoint}
 use borrow.Author.Needs.{needs}
 use Rattle.arc.proofs.span.arc_param_at_point.Statement.{statement}
 use Rattle.arc.proofs.span.arc_param_at_point.Tie as tie
-use Rattle.arctan.proofs.atan2.Reads as atan2-reads
-use Rattle.scalar.proofs.max.Reads as max-reads
-use Rattle.sine.proofs.sin_cos.Reads as sin-cos-reads
 
 sin-cos-requires : tie.Need-sin-cos-requires
 sin-cos-requires c κs = search needs
@@ -20,7 +18,7 @@ atan2-requires c κs = search needs
 
 returns : tie.Need-returns
 unfolding arcParamAtPoint
-returns c = cc
+returns c = rw (c .atan2 .ensures, c .before .max2 .ensures, c .before .before .max .ensures, c .before .before .before .before .before .before .before .before .before .before .before .sin-cos .ensures .0, c .before .before .before .before .before .before .before .before .before .before .before .sin-cos .ensures .1)
 
 pub arc-param-at-point-spec : {M : Type 1} → statement M
 arc-param-at-point-spec =

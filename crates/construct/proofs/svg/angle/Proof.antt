@@ -1,3 +1,4 @@
+-- `construct::svg::angle` meets its contract. Assumes nothing.
 use Rattle.construct.specs.Svg.{angle}
 use borrow.Author.Needs.{needs}
 use Rattle.construct.proofs.svg.angle.Statement.{statement}

@@ -1,3 +1,4 @@
+-- `construct::svg::identical` meets its contract. Assumes nothing.
 use Rattle.construct.specs.OutOfRange.{identical}
 use borrow.Author.Needs.{needs}
 use Rattle.construct.proofs.svg.identical.Statement.{statement}

@@ -1,3 +1,4 @@
+-- `construct::three_points::bearing` meets its contract. Assumes nothing.
 use Rattle.construct.specs.Circumscribed.{bearing}
 use borrow.Author.Needs.{needs}
 use Rattle.construct.proofs.three_points.bearing.Statement.{statement}

@@ -1,3 +1,4 @@
+-- `earc_fit::axes::center` meets its contract. Assumes nothing.
 use mathlib.Core.Path.{refl}
 use Rattle.earc_fit.specs.Axes.{centerOf}
 use Rattle.earc_fit.proofs.axes.center.Statement.{statement}

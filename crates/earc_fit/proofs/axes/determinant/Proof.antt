@@ -1,3 +1,4 @@
+-- `earc_fit::axes::determinant` meets its contract. Assumes nothing.
 use mathlib.Core.Path.{refl}
 use Rattle.earc_fit.specs.Axes.{determinant}
 use Rattle.earc_fit.proofs.axes.determinant.Statement.{statement}

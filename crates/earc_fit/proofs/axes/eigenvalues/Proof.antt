@@ -1,3 +1,4 @@
+-- `earc_fit::axes::eigenvalues` meets its contract. Assumes nothing.
 use Rattle.earc_fit.specs.Axes.{eigenvalues}
 use borrow.Author.Needs.{needs}
 use Rattle.earc_fit.proofs.axes.eigenvalues.Statement.{statement}

@@ -1,3 +1,4 @@
+-- `earc_fit::axes::either_flat` meets its contract. Assumes nothing.
 use Rattle.earc_fit.specs.Axes.{eitherFlat}
 use borrow.Author.Needs.{needs}
 use Rattle.earc_fit.proofs.axes.either_flat.Statement.{statement}

@@ -1,3 +1,4 @@
+-- `earc_fit::axes::either_unreal` meets its contract. Assumes nothing.
 use Rattle.earc_fit.specs.Axes.{eitherUnreal}
 use Rattle.earc_fit.proofs.axes.either_unreal.Statement.{statement}
 use Rattle.earc_fit.proofs.axes.either_unreal.Tie as tie

@@ -1,3 +1,4 @@
+-- `earc_fit::axes::radii_squared` meets its contract. Assumes nothing.
 use mathlib.Core.Path.{refl}
 use Rattle.earc_fit.specs.Axes.{radiiSquared}
 use Rattle.earc_fit.proofs.axes.radii_squared.Statement.{statement}

@@ -1,3 +1,4 @@
+-- `earc_fit::axes::rotation` meets its contract. Assumes nothing.
 use Rattle.earc_fit.specs.Axes.{rotation}
 use borrow.Author.Needs.{needs}
 use Rattle.earc_fit.proofs.axes.rotation.Statement.{statement}

@@ -1,3 +1,4 @@
+-- `earc_fit::conic::conic_matrix` meets its contract. Assumes nothing.
 use Rattle.earc_fit.specs.Conic.{conicMatrix}
 use borrow.Author.Needs.{needs}
 use Rattle.earc_fit.proofs.conic.conic_matrix.Statement.{statement}

@@ -1,3 +1,4 @@
+-- `earc_fit::conic::entry` meets its contract. Assumes nothing.
 use mathlib.Core.Path.{refl}
 use Rattle.earc_fit.specs.Conic.{entry}
 use borrow.Author.Needs.{needs}

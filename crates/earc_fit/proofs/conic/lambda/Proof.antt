@@ -1,3 +1,4 @@
+-- `earc_fit::conic::lambda` meets its contract. Assumes nothing.
 use Rattle.earc_fit.specs.Conic.{lambda}
 use borrow.Author.Needs.{needs}
 use Rattle.earc_fit.proofs.conic.lambda.Statement.{statement}

@@ -1,3 +1,4 @@
+-- `earc_fit::ends::parametric` meets its contract. Assumes nothing.
 use Rattle.earc_fit.specs.Ends.{parametric}
 use borrow.Author.Needs.{needs}
 use Rattle.earc_fit.proofs.ends.parametric.Statement.{statement}

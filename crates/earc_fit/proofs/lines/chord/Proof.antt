@@ -1,3 +1,4 @@
+-- `earc_fit::lines::chord` meets its contract. Assumes nothing.
 use mathlib.Core.Path.{refl}
 use Rattle.earc_fit.specs.Lines.{chord}
 use Rattle.earc_fit.proofs.lines.chord.Statement.{statement}

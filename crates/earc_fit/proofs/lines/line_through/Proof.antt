@@ -1,3 +1,4 @@
+-- `earc_fit::lines::line_through` meets its contract. Assumes nothing.
 use mathlib.Core.Path.{refl}
 use Rattle.earc_fit.specs.Lines.{lineThrough}
 use Rattle.earc_fit.proofs.lines.line_through.Statement.{statement}

@@ -1,3 +1,4 @@
+-- `earc_fit::lines::line_value` meets its contract. Assumes nothing.
 use mathlib.Core.Path.{refl}
 use Rattle.earc_fit.specs.Lines.{lineValue}
 use borrow.Author.Needs.{needs}

@@ -1,3 +1,4 @@
+-- `earc_fit::lines::normalized` meets its contract. Assumes nothing.
 use mathlib.Core.Path.{refl}
 use Rattle.earc_fit.specs.Lines.{normalized}
 use borrow.Author.Needs.{needs}

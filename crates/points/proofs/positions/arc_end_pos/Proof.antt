@@ -1,3 +1,4 @@
+-- `points::positions::arc_end_pos` meets its contract. Assumes nothing.
 use Rattle.checks.specs.Given.{tested}
 use borrow.Author.Needs.{needs}
 use Rattle.points.proofs.positions.arc_end_pos.Statement.{statement}

@@ -1,3 +1,4 @@
+-- `points::positions::arc_point_at` meets its contract. Assumes nothing.
 use Rattle.checks.specs.Given.{tested}
 use borrow.Author.Needs.{needs}
 use Rattle.points.proofs.positions.arc_point_at.Statement.{statement}

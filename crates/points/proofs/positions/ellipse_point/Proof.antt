@@ -1,3 +1,4 @@
+-- `points::positions::ellipse_point` meets its contract. Assumes nothing.
 use Rattle.checks.specs.Given.{tested}
 use borrow.Author.Needs.{needs}
 use Rattle.points.proofs.positions.ellipse_point.Statement.{statement}

@@ -1,3 +1,4 @@
+-- `points::positions::ellipse_tangent` meets its contract. Assumes nothing.
 use Rattle.checks.specs.Given.{tested}
 use borrow.Author.Needs.{needs}
 use Rattle.points.proofs.positions.ellipse_tangent.Statement.{statement}

@@ -1,3 +1,4 @@
+-- `points::positions::line_line_intersection` meets its contract. Assumes nothing.
 use Rattle.checks.specs.Given.{tested}
 use borrow.Author.Needs.{needs}
 use Rattle.points.proofs.positions.line_line_intersection.Statement.{statement}

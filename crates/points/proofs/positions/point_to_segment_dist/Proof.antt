@@ -1,3 +1,4 @@
+-- `points::positions::point_to_segment_dist` meets its contract. Assumes nothing.
 use Rattle.checks.specs.Given.{tested}
 use borrow.Author.Needs.{needs}
 use Rattle.points.proofs.positions.point_to_segment_dist.Statement.{statement}

@@ -1,3 +1,4 @@
+-- `points::positions::project_onto_segment` meets its contract. Assumes nothing.
 use Rattle.checks.specs.Given.{tested}
 use borrow.Author.Needs.{needs}
 use Rattle.points.proofs.positions.project_onto_segment.Statement.{statement}

@@ -1,3 +1,4 @@
+-- `points::spans::arc_radii` meets its contract. Assumes nothing.
 use Rattle.checks.specs.Given.{tested}
 use borrow.Author.Needs.{needs}
 use Rattle.points.proofs.spans.arc_radii.Statement.{statement}

@@ -1,3 +1,4 @@
+-- `points::spans::norm_tau` meets its contract. Assumes nothing.
 use Rattle.checks.specs.Given.{tested}
 use borrow.Author.Needs.{needs}
 use Rattle.points.proofs.spans.norm_tau.Statement.{statement}
