@@ -30,19 +30,24 @@ pub struct Arc {
     pub ccw: bool,
 }
 
-impl From<&crate::Arc> for Arc {
-    fn from(a: &crate::Arc) -> Arc {
-        let n = &a.numbers;
+impl From<arcs::vect2d> for vect2d {
+    fn from(p: arcs::vect2d) -> vect2d {
+        vect2d::new(p.x, p.y)
+    }
+}
+
+impl From<arcs::Arc> for Arc {
+    fn from(a: arcs::Arc) -> Arc {
         Arc {
-            center: Param { value: vect2d::new(n[0], n[1]) },
-            radius: Param { value: n[2] },
-            radius_b: Param { value: n[3] },
-            rotation: Param { value: n[4] },
-            start_angle: Param { value: n[5] },
-            end_angle: Param { value: n[6] },
-            closed: a.marks & crate::CLOSED != 0,
-            is_ellipse: a.marks & crate::ELLIPSE != 0,
-            ccw: a.marks & crate::CCW != 0,
+            center: Param { value: a.center.value.into() },
+            radius: Param { value: a.radius.value },
+            radius_b: Param { value: a.radius_b.value },
+            rotation: Param { value: a.rotation.value },
+            start_angle: Param { value: a.start_angle.value },
+            end_angle: Param { value: a.end_angle.value },
+            closed: a.closed,
+            is_ellipse: a.is_ellipse,
+            ccw: a.ccw,
         }
     }
 }

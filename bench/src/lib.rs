@@ -1,61 +1,13 @@
-//! What the comparisons share: the proved routines, a generator with a seed, and a stopwatch.
+//! What the comparisons share: the original's text, the calls and their inputs, a generator with a seed, and a stopwatch.
+pub mod calls;
+pub mod cases;
+pub mod search;
+
 use std::time::Instant;
 
 pub const NAN: u64 = 0x7ff8_0000_0000_0000;
 
-/// The proved routines, as safe functions. Each export takes every number; `arcs_sin_cos` writes at most the two numbers lent.
-pub mod proved {
-    extern "C" {
-        fn arcs_sqrt(x: f64) -> f64;
-        fn arcs_sin(x: f64) -> f64;
-        fn arcs_cos(x: f64) -> f64;
-        fn arcs_sin_cos(x: f64, out: *mut f64, len: usize) -> u32;
-        fn arcs_atan2(y: f64, x: f64) -> f64;
-        fn arcs_acos(c: f64) -> f64;
-        fn arcs_intersect_arcs(
-            a: *const f64, a_len: usize, a_marks: u32, b: *const f64, b_len: usize, b_marks: u32, depth: u32,
-            room: *mut f64, room_len: usize, counts: *mut u64, counts_len: usize,
-        ) -> u32;
-    }
-
-    pub fn sqrt(x: f64) -> f64 {
-        unsafe { arcs_sqrt(x) }
-    }
-
-    pub fn sin(x: f64) -> f64 {
-        unsafe { arcs_sin(x) }
-    }
-
-    pub fn cos(x: f64) -> f64 {
-        unsafe { arcs_cos(x) }
-    }
-
-    pub fn sin_cos(x: f64) -> (f64, f64) {
-        let mut out = [0.0; 2];
-        unsafe { arcs_sin_cos(x, out.as_mut_ptr(), 2) };
-        (out[0], out[1])
-    }
-
-    pub fn atan2(y: f64, x: f64) -> f64 {
-        unsafe { arcs_atan2(y, x) }
-    }
-
-    pub fn acos(c: f64) -> f64 {
-        unsafe { arcs_acos(c) }
-    }
-
-    /// Hits, brackets, the three other fates and the evaluations go to `counts`; the number of the refusal comes back.
-    pub fn intersect_arcs(a: &crate::Arc, b: &crate::Arc, depth: u32, room: &mut [f64], counts: &mut [u64]) -> u32 {
-        unsafe {
-            arcs_intersect_arcs(
-                a.numbers.as_ptr(), a.numbers.len(), a.marks, b.numbers.as_ptr(), b.numbers.len(), b.marks, depth,
-                room.as_mut_ptr(), room.len(), counts.as_mut_ptr(), counts.len(),
-            )
-        }
-    }
-}
-
-/// The original's text, and the same with its calls of angles sent to the proved routines (build.rs).
+/// The original's text, and the same with its calls of angles and of `min`, `max` and `clamp` sent to `Routed` (build.rs).
 pub mod original {
     include!(concat!(env!("OUT_DIR"), "/original.rs"));
 }
@@ -64,41 +16,56 @@ pub mod oracle {
     include!(concat!(env!("OUT_DIR"), "/oracle.rs"));
 }
 
+/// Where the oracle's calls go.
 pub trait Routed {
     fn routed_sin(self) -> f64;
     fn routed_cos(self) -> f64;
     fn routed_sin_cos(self) -> (f64, f64);
     fn routed_atan2(self, x: f64) -> f64;
     fn routed_acos(self) -> f64;
+    fn routed_min(self, other: f64) -> f64;
+    fn routed_max(self, other: f64) -> f64;
+    fn routed_clamp(self, low: f64, high: f64) -> f64;
 }
 
 impl Routed for f64 {
     fn routed_sin(self) -> f64 {
-        proved::sin(self)
+        arcs::sin(self)
     }
     fn routed_cos(self) -> f64 {
-        proved::cos(self)
+        arcs::cos(self)
     }
     fn routed_sin_cos(self) -> (f64, f64) {
-        proved::sin_cos(self)
+        arcs::sin_cos(self)
     }
     fn routed_atan2(self, x: f64) -> f64 {
-        proved::atan2(self, x)
+        arcs::atan2(self, x)
     }
     fn routed_acos(self) -> f64 {
-        proved::acos(self)
+        arcs::acos(self)
     }
-}
-
-pub const CCW: u32 = 1;
-pub const CLOSED: u32 = 2;
-pub const ELLIPSE: u32 = 4;
-
-/// An arc as the exports take it: center x and y, radius, radius_b, rotation, start, end, and the marks.
-#[derive(Clone, Copy, Debug)]
-pub struct Arc {
-    pub numbers: [f64; 7],
-    pub marks: u32,
+    /// 01: "of two zeros minimum and maximum give the second".
+    fn routed_min(self, other: f64) -> f64 {
+        if self == 0.0 && other == 0.0 { other } else { self.min(other) }
+    }
+    fn routed_max(self, other: f64) -> f64 {
+        if self == 0.0 && other == 0.0 { other } else { self.max(other) }
+    }
+    /// 01: "clamp with a NaN value, low end above high or a NaN end, the answer is the NaN". Else the value, or the end that it
+    /// lies beyond; -0.0 lies beyond neither end.
+    fn routed_clamp(self, low: f64, high: f64) -> f64 {
+        if low <= high {
+            if self < low {
+                low
+            } else if self > high {
+                high
+            } else {
+                self
+            }
+        } else {
+            f64::from_bits(NAN)
+        }
+    }
 }
 
 /// SplitMix64.
@@ -133,8 +100,8 @@ pub fn bits(x: f64) -> u64 {
     if x.is_nan() { NAN } else { x.to_bits() }
 }
 
-/// How two ways of doing the same compare: the fastest round of each, in nanoseconds a call, and the ratio of the
-/// first to the second, round by round: its middle and where the middle half of the rounds lies.
+/// How two ways of doing the same compare: nanoseconds a call, each piece of the arguments counted by its fastest round, and
+/// the ratio of the first to the second, piece by piece and round by round: its middle and where the middle half lies.
 pub struct Compared {
     pub own: f64,
     pub theirs: f64,
@@ -142,6 +109,9 @@ pub struct Compared {
     pub middle: f64,
     pub high: f64,
 }
+
+/// Short beside the time for which a busy machine takes the processor away.
+const PIECE: usize = 1024;
 
 fn each<A: Copy>(arguments: &[A], f: &impl Fn(A) -> f64) -> f64 {
     let mut sum = 0.0;
@@ -154,24 +124,33 @@ fn each<A: Copy>(arguments: &[A], f: &impl Fn(A) -> f64) -> f64 {
     nanos
 }
 
-/// Times both over their arguments, turn and turn about, so that a busy machine slows both.
+/// Times both over their arguments, of which there are as many, turn and turn about, so that a busy machine slows both.
 pub fn compare<A: Copy, B: Copy>(rounds: usize, ours: &[A], own: impl Fn(A) -> f64, others: &[B], theirs: impl Fn(B) -> f64) -> Compared {
-    let times: Vec<(f64, f64)> = (0..rounds).map(|_| (each(ours, &own), each(others, &theirs))).collect();
-    let mut ratios: Vec<f64> = times.iter().map(|(a, b)| a / b).collect();
+    let pieces = ours.len().div_ceil(PIECE);
+    let mut fastest = vec![(f64::INFINITY, f64::INFINITY); pieces];
+    let mut ratios = Vec::with_capacity(rounds * pieces);
+    for _ in 0..rounds {
+        for (least, (a, b)) in fastest.iter_mut().zip(ours.chunks(PIECE).zip(others.chunks(PIECE))) {
+            let (t, u) = (each(a, &own), each(b, &theirs));
+            *least = (least.0.min(t), least.1.min(u));
+            ratios.push(t / u);
+        }
+    }
     ratios.sort_by(f64::total_cmp);
+    let mean = |times: &dyn Fn(&(f64, f64)) -> f64| fastest.iter().map(times).sum::<f64>() / pieces as f64;
     Compared {
-        own: times.iter().map(|t| t.0).fold(f64::INFINITY, f64::min),
-        theirs: times.iter().map(|t| t.1).fold(f64::INFINITY, f64::min),
-        low: ratios[rounds / 4],
-        middle: ratios[rounds / 2],
-        high: ratios[rounds * 3 / 4],
+        own: mean(&|t| t.0),
+        theirs: mean(&|t| t.1),
+        low: ratios[ratios.len() / 4],
+        middle: ratios[ratios.len() / 2],
+        high: ratios[ratios.len() * 3 / 4],
     }
 }
 
 /// Prints a comparison.
 pub fn report(what: &str, c: Compared) {
     println!(
-        "{what:<34} {:>8.1} ns   theirs {:>8.1} ns   ratio {:.2} (half of the rounds: {:.2} to {:.2}; fastest to fastest {:.2})",
+        "{what:<38} {:>8.1} ns   theirs {:>8.1} ns   ratio {:.2} (half of the times: {:.2} to {:.2}; fastest to fastest {:.2})",
         c.own, c.theirs, c.middle, c.low, c.high, c.own / c.theirs
     );
 }

@@ -1,6 +1,6 @@
 //! The square root against the machine's instruction: every bit of the answer, and the time.
 //! `bench/run sqrt [SEED]`
-use bench::{bits, proved, compare, report, seed, Random, NAN};
+use bench::{bits, compare, report, seed, Random, NAN};
 
 struct Check {
     tried: u64,
@@ -12,7 +12,7 @@ impl Check {
         let x = f64::from_bits(b);
         // LLVM drops the test for a NaN behind a root and keeps the instruction's own pattern, so the root is hidden from it
         let want = bits(std::hint::black_box(x.sqrt()));
-        let got = proved::sqrt(x).to_bits();
+        let got = arcs::sqrt(x).to_bits();
         self.tried += 1;
         if got != want {
             self.wrong += 1;
@@ -54,10 +54,10 @@ fn main() {
         check.pattern(b + 1);
     }
     println!("sqrt: {} patterns, {} differ from the machine's", check.tried, check.wrong);
-    assert_eq!(proved::sqrt(-1.0).to_bits(), NAN);
+    assert_eq!(arcs::sqrt(-1.0).to_bits(), NAN);
 
     let xs: Vec<f64> = (0..4096).map(|_| f64::from_bits(random.bits() & digits | (0x3f0 + random.below(32)) << 52)).collect();
-    report("sqrt", compare(200, &xs, proved::sqrt, &xs, |x: f64| x.sqrt()));
+    report("sqrt", compare(200, &xs, arcs::sqrt, &xs, |x: f64| x.sqrt()));
     if check.wrong > 0 {
         std::process::exit(1);
     }

@@ -1,6 +1,6 @@
 //! A second writing of docs/TRIG.md, made from the page alone: sine, cosine, arctangent and arccosine on whole numbers.
 //! Every bit is compared with the proved routines, on more than a million arguments each.
-use bench::{proved, seed, Random};
+use bench::{seed, Random};
 use std::sync::LazyLock;
 
 // The tables.
@@ -487,17 +487,17 @@ fn main() {
     let (mut of_sin, mut of_cos, mut of_both) = (Tally::new("sin"), Tally::new("cos"), Tally::new("sin_cos"));
     for x in angles(&mut random) {
         let (s, c) = (sin(x), cos(x));
-        of_sin.check([x], [s], [proved::sin(x)]);
-        of_cos.check([x], [c], [proved::cos(x)]);
-        of_both.check([x], [s, c], proved::sin_cos(x).into());
+        of_sin.check([x], [s], [arcs::sin(x)]);
+        of_cos.check([x], [c], [arcs::cos(x)]);
+        of_both.check([x], [s, c], arcs::sin_cos(x).into());
     }
     let mut of_atan2 = Tally::new("atan2");
     for (y, x) in points(&mut random) {
-        of_atan2.check([y, x], [atan2(y, x)], [proved::atan2(y, x)]);
+        of_atan2.check([y, x], [atan2(y, x)], [arcs::atan2(y, x)]);
     }
     let mut of_acos = Tally::new("acos");
     for c in cosines(&mut random) {
-        of_acos.check([c], [acos(c)], [proved::acos(c)]);
+        of_acos.check([c], [acos(c)], [arcs::acos(c)]);
     }
 
     let equal = [of_sin, of_cos, of_both, of_atan2, of_acos].map(|tally| tally.close());

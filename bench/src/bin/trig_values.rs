@@ -1,6 +1,6 @@
 //! Writes arguments and the proved answers, one case a line, for bench/accuracy.py to read: `s x sin cos`, `t y x atan2`, `c x acos`, all as hex
 //! digits of the bits. `bench/run trig_values [SEED]`
-use bench::{proved, seed, Random};
+use bench::{seed, Random};
 use std::io::{BufWriter, Write};
 
 const COUNT: u64 = 1_000_000;
@@ -19,7 +19,7 @@ fn main() -> std::io::Result<()> {
             }
             _ => f64::from_bits(random.bits()),
         };
-        let (s, c) = proved::sin_cos(x);
+        let (s, c) = arcs::sin_cos(x);
         writeln!(out, "s {:016x} {:016x} {:016x}", x.to_bits(), s.to_bits(), c.to_bits())?;
     }
     for i in 0..COUNT {
@@ -29,7 +29,7 @@ fn main() -> std::io::Result<()> {
             2 => (random.within(1e-6), random.within(1.0)),
             _ => (random.within(1.0), random.within(1e-6)),
         };
-        writeln!(out, "t {:016x} {:016x} {:016x}", y.to_bits(), x.to_bits(), proved::atan2(y, x).to_bits())?;
+        writeln!(out, "t {:016x} {:016x} {:016x}", y.to_bits(), x.to_bits(), arcs::atan2(y, x).to_bits())?;
     }
     for i in 0..COUNT {
         let c = match i % 8 {
@@ -37,7 +37,7 @@ fn main() -> std::io::Result<()> {
             1 => random.within(1e-6),
             _ => random.within(1.0),
         };
-        writeln!(out, "c {:016x} {:016x}", c.to_bits(), proved::acos(c).to_bits())?;
+        writeln!(out, "c {:016x} {:016x}", c.to_bits(), arcs::acos(c).to_bits())?;
     }
     out.flush()
 }

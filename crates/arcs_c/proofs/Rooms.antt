@@ -1,31 +1,44 @@
 -- From what the library tells to what an export gives. Assumes nothing.
-use mathlib.Core.Path.{_≡_, refl, sym, ap, _∙_}
-use mathlib.Core.Bool.{Bool, true, false, cond, _||_}
+use mathlib.Core.Path.{_≡_, refl, sym, _∙_}
+use mathlib.Core.Bool.{Bool, true, false, cond, _||_, _&&_}
 use mathlib.Core.List.{List, []}
-use Prim.Native.Nat.{ℕ, _*_, _^_, _≤_, _<_}
+use Prim.Native.Nat.{ℕ, _+_, _*_, _^_, _≤_, _<_}
 use native.Mathlib.Omega.{arith}
-use borrow.Author.Tests.{lt-ltb, le-ltb}
-use lib.Dec.{eqb, ltb}
-use lib.ListN.{length}
+use borrow.Author.Tests.{lt-ltb, le-ltb, eqb-true}
+use lib.Dec.{eqb, ltb, leb}
+use lib.ListN.{length, take, drop, length-take}
 use lib.Ieee.{Float}
 use lib.Pow.{pow-pos}
 use Rattle.arc.specs.declared.Arc.{Arc}
 use Rattle.hits.specs.declared.CurveHit.{CurveHit}
+use Rattle.hits.specs.Hit.{hitSize, hitPart}
 use Rattle.checks.specs.declared.Faults.{Faults}
-use Rattle.checks.specs.Answer.{Answer, answered}
+use Rattle.checks.specs.Answer.{Answer, answered, refused}
 use Rattle.queries.specs.Crossed.{Crossed}
 use Rattle.checks.specs.Refusal.{refusal, orLater}
+use Rattle.queries.specs.declared.curves.Curve.{Curve}
+use Rattle.queries.specs.declared.curves.Curve.the-variants.{Segment, Bow}
 use Rattle.queries.specs.Need.{pairNeed}
+use Rattle.queries.specs.Curves.{curvesNeed}
 use Rattle.arcs_c.specs.Lent.{placed}
-use Rattle.arcs_c.specs.Exported.{HitsOut}
+use Rattle.arcs_c.specs.Exported.{NumbersGiven, NumbersOut, floats, HitsOut, HitOut}
 
--- ---- the counts fit
+-- ---- numbers
 
-module _ (n : ℕ) (hs : List CurveHit) (counts : List ℕ) (room : List Float) (lent : List ℕ) where
-  pub hits-out : (told : Answer) (after : List Float) (lent' : List ℕ) → length counts ≤ length lent → Crossed n hs counts room told after → lent' ≡ placed (told .counts) 0 lent
-      → HitsOut n hs counts room lent (told .refusal) after lent'
+-- a refusal gives no number and no other value
+pub none-out : (n : ℕ) (lent : List Float) → NumbersOut (refused n) lent n lent
+unfolding NumbersOut floats placed
+none-out n lent = go (eqb n 0) refl
+  where
+    go : (b : Bool) → eqb n 0 ≡ b → NumbersOut (refused n) lent n lent
+    go true i = record { refusal = rw (i, le-ltb (length lent) 0 (omega arith)) (eqb-true n 0 i); values = rw i refl }
+    go false i = record { refusal = rw i refl; values = rw i refl }
+
+-- ---- hits, where the counts fit
+module _ {n : ℕ} {hs : List CurveHit} {counts : List ℕ} {room after : List Float} {told : Answer} {lent lent' : List ℕ} where
+  pub hits-out : Crossed n hs counts room told after → length counts ≤ length lent → lent' ≡ placed (told .counts) 0 lent → HitsOut n hs counts room lent (told .refusal) after lent'
   unfolding answered placed
-  hits-out told after lent' fit c e = go (eqb n 0) refl
+  hits-out c fit e = go (eqb n 0) refl
     where
       go : (b : Bool) → eqb n 0 ≡ b → HitsOut n hs counts room lent (told .refusal) after lent'
       go true i = record {
@@ -39,7 +52,7 @@ module _ (n : ℕ) (hs : List CurveHit) (counts : List ℕ) (room : List Float) 
         told = rw (e, c .answer, i, i) refl;
       }
 
--- ---- the counts do not fit
+-- ---- hits, where the counts do not fit
 
 -- a room too short for the need is refused as a longer one is, and with 4 where that one is taken
 pub refusal-short : (f : Faults) (depth need room little : ℕ) → little < need → refusal f depth need little ≡ orLater (refusal f depth need room) 4
@@ -53,18 +66,18 @@ refusal-short f depth need room little h = rw (lt-ltb _ _ h) (go (f .unreal) (f 
     go false false false true = refl
     go false false false false = refl
 
-pub later-four : (n : ℕ) → eqb (orLater n 4) 0 ≡ false
+later-four : (n : ℕ) → eqb (orLater n 4) 0 ≡ false
 later-four n = go (eqb n 0) refl
   where
     go : (b : Bool) → eqb n 0 ≡ b → eqb (cond b 4 n) 0 ≡ false
     go true i = refl
     go false i = i
 
-module _ (n little : ℕ) (hs : List CurveHit) (counts : List ℕ) (room : List Float) (lent : List ℕ) where
-  pub hits-short : (told : Answer) (before after : List Float) → length lent < length counts → little ≡ orLater n 4 → Crossed little hs counts before told after
-      → HitsOut n hs counts room lent (told .refusal) room lent
+-- the library is called with a little room; the caller's stays as it was
+module _ {n small : ℕ} {hs : List CurveHit} {counts : List ℕ} {little after room : List Float} {told : Answer} {lent : List ℕ} where
+  pub hits-short : Crossed small hs counts little told after → small ≡ orLater n 4 → length lent < length counts → HitsOut n hs counts room lent (told .refusal) room lent
   unfolding answered
-  hits-short told before after short e c =
+  hits-short c e short =
       let refused : told .refusal ≡ orLater n 4 = rw (c .answer, e, later-four n) refl in
       record {
         refusal = rw (lt-ltb _ _ short) refused;
@@ -81,6 +94,35 @@ pair-needs a b depth = go (a .«is_ellipse» || b .«is_ellipse»)
     go true = omega (arith, pow-pos depth)
     go false = omega arith
 
+-- and so does every pair of curves
+pub curves-need : (a b : Curve) (depth : ℕ) → 1 < curvesNeed a b depth
+curves-need (Segment x1 y1 x2 y2) (Segment u1 v1 u2 v2) depth = omega arith
+curves-need (Segment x1 y1 x2 y2) (Bow b) depth = omega arith
+curves-need (Bow a) (Segment u1 v1 u2 v2) depth = omega arith
+curves-need (Bow a) (Bow b) depth = pair-needs a b depth
+
+-- ---- one hit
+
+pub part-short : (room : List Float) (hits i : ℕ) → length (hitPart room hits i) ≤ hitSize
+unfolding hitPart
+part-short room hits i = go (ltb i hits && leb (i * hitSize + hitSize) (length room))
+  where
+    go : (b : Bool) → length (cond b (take hitSize (drop (i * hitSize) room)) []) ≤ hitSize
+    go true = rw (length-take hitSize (drop (i * hitSize) room)) (omega arith)
+    go false = omega arith
+
+-- ---- NO SECOND OUTCOME of an export with numbers
+pub numbers-given-unique : {n : ℕ} {numbers lent : List Float} (given given' : ℕ) (after after' : List Float) → NumbersGiven n numbers lent given after → NumbersGiven n numbers lent given' after'
+    → (given ≡ given') × (after ≡ after')
+numbers-given-unique given given' after after' p q =
+    let same : given ≡ given' = p .refusal ∙ sym (q .refusal) in
+    (same, p .values ∙ sym (rw same (q .values)))
+
+pub numbers-out-unique : (told : Answer) (lent : List Float) (given given' : ℕ) (after after' : List Float) → NumbersOut told lent given after → NumbersOut told lent given' after'
+    → (given ≡ given') × (after ≡ after')
+unfolding NumbersOut
+numbers-out-unique told lent given given' after after' p q = numbers-given-unique given given' after after' p q
+
 -- ---- NO SECOND OUTCOME of an export with hits
 module _ {n : ℕ} {hs : List CurveHit} {counts : List ℕ} {room : List Float} {lent : List ℕ} where
   pub hits-out-unique : (given given' : ℕ) (after after' : List Float) (told told' : List ℕ) → HitsOut n hs counts room lent given after told → HitsOut n hs counts room lent given' after' told'
@@ -88,3 +130,10 @@ module _ {n : ℕ} {hs : List CurveHit} {counts : List ℕ} {room : List Float} 
   hits-out-unique given given' after after' told told' p q =
       let same : given ≡ given' = p .refusal ∙ sym (q .refusal) in
       (same, p .hits ∙ sym (rw same (q .hits)), p .told ∙ sym (rw same (q .told)))
+
+module _ {part out : List Float} {lent : List ℕ} where
+  pub hit-out-unique : (given given' : ℕ) (after after' : List Float) (told told' : List ℕ) → HitOut part out lent given after told → HitOut part out lent given' after' told'
+      → (given ≡ given') × (after ≡ after') × (told ≡ told')
+  hit-out-unique given given' after after' told told' p q =
+      let same : given ≡ given' = p .refusal ∙ sym (q .refusal) in
+      (same, p .values ∙ sym (rw same (q .values)), p .told ∙ sym (rw same (q .told)))

@@ -1,11 +1,15 @@
 -- How C's numbers stand for the library's: an arc is seven numbers (center x and y, radius, radius_b, rotation, start, end) and a whole number of marks, 1 for ccw, 2 for closed
--- and 4 for an ellipse. A number that the caller has not lent is the NaN, so the call is refused with 1. Definitions only. Assumes nothing.
+-- and 4 for an ellipse. A curve is an arc, or with the mark 8 a segment of four numbers, its ends. A number that the caller has not lent is the NaN, so the call is refused with 1.
+-- Definitions only. Assumes nothing.
 use Prim.Native.Nat.{ℕ, _+_, _/_, _%_}
+use mathlib.Core.Bool.{cond}
 use mathlib.Core.List.{List, [], _∷_}
 use lib.Dec.{eqb}
 use lib.ListN.{getD, set}
 use lib.Ieee.{Float, nan}
 use Rattle.arc.specs.declared.Arc.{Arc}
+use Rattle.queries.specs.declared.curves.Curve.{Curve}
+use Rattle.queries.specs.declared.curves.Curve.the-variants.{Segment, Bow}
 
 unfoldable pub lentNumber : List Float → ℕ → Float
 lentNumber numbers i = getD numbers i nan
@@ -22,6 +26,12 @@ lentArc numbers marks = record {
   closed = eqb (marks / 2 % 2) 1;
   «is_ellipse» = eqb (marks / 4 % 2) 1;
 }
+
+unfoldable pub lentCurve : List Float → ℕ → Curve
+lentCurve numbers marks =
+    cond (eqb (marks / 8 % 2) 1)
+    (Segment (lentNumber numbers 0) (lentNumber numbers 1) (lentNumber numbers 2) (lentNumber numbers 3))
+    (Bow (lentArc numbers marks))
 
 -- the room with the numbers xs from place i on
 unfoldable pub placed : {A : Type 0} → List A → ℕ → List A → List A

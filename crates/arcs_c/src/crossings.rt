@@ -3,8 +3,8 @@ ghost use mathlib.Core.Path.{_≡_};
 ghost use Prim.Native.Nat.{_≤_};
 ghost use lib.ListN.{length};
 ghost use Rattle.checks.specs.Answer.{huntedTold};
-ghost use Rattle.arcs_c.specs.Lent.{lentArc, placed};
-ghost use Rattle.arcs_c.specs.Exported.{ArcsOut};
+ghost use Rattle.arcs_c.specs.Lent.{lentArc, lentCurve, placed};
+ghost use Rattle.arcs_c.specs.Exported.{ArcsOut, CurvesOut};
 use crate::lent;
 use arcs::Hunted;
 
@@ -56,6 +56,30 @@ pub extern "C" fn arcs_intersect_arcs(
         return refused(arcs::intersect_arcs(p, q, depth, &mut one));
     }
     let h = arcs::intersect_arcs(p, q, depth, room);
+    count(h, counts);
+    refused(h)
+}
+
+// The same counts; all but the hits are 0 where nothing is sampled.
+#[no_mangle]
+pub extern "C" fn arcs_intersect(
+    a: &[f64],
+    a_marks: u32,
+    b: &[f64],
+    b_marks: u32,
+    depth: u32,
+    room: &mut [f64],
+    counts: &mut [u64],
+) -> u32
+    ensures { λ r. ⌜ CurvesOut (lentCurve (now (a .entry)) «a_marks») (lentCurve (now (b .entry)) «b_marks») depth (now (room .entry)) (now (counts .entry)) r (now (room .exit)) (now (counts .exit)) ⌝ }
+{
+    let p = lent::curve(a, a_marks);
+    let q = lent::curve(b, b_marks);
+    if counts.len() < 6 {
+        let mut one = [0.0; 1];
+        return refused(arcs::intersect(p, q, depth, &mut one));
+    }
+    let h = arcs::intersect(p, q, depth, room);
     count(h, counts);
     refused(h)
 }

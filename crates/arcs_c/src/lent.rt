@@ -1,8 +1,9 @@
 // What C's numbers stand for.
 ghost use mathlib.Core.Path.{_≡_};
-ghost use Rattle.arcs_c.specs.Lent.{lentNumber, lentArc};
+ghost use Rattle.arcs_c.specs.Lent.{lentNumber, lentArc, lentCurve};
 use arc::Arc;
 use arc::Point;
+use arcs::Curve;
 
 // A number that was not lent is the NaN.
 pub fn number(numbers: &[f64], i: usize) -> f64
@@ -31,4 +32,18 @@ pub fn arc(numbers: &[f64], marks: u32) -> Arc
         closed: marks / 2 % 2 == 1,
         is_ellipse: marks / 4 % 2 == 1,
     }
+}
+
+pub fn curve(numbers: &[f64], marks: u32) -> Curve
+    ensures { λ r. ⌜ r ≡ lentCurve (now (numbers .entry)) marks ⌝ }
+{
+    if marks / 8 % 2 == 1 {
+        return Curve::Segment(
+            number(numbers, 0),
+            number(numbers, 1),
+            number(numbers, 2),
+            number(numbers, 3),
+        );
+    }
+    Curve::Bow(arc(numbers, marks))
 }

@@ -1,14 +1,44 @@
 // The library for C and Rust to link: numbers and slices of numbers cross, and nothing else.
+mod closed;
 mod crossings;
+mod figures;
+mod given;
 mod lent;
+mod positions;
+mod spans;
 
 ghost use mathlib.Core.Path.{_≡_};
+ghost use mathlib.Core.List.{[], _∷_};
 ghost use Rattle.root.specs.SquareRoot.{squareRoot};
 ghost use Rattle.sine.specs.Rule.{sine, cosine};
 ghost use Rattle.arctan.specs.Rule.{arctangent};
 ghost use Rattle.arccos.specs.Arccos.{arccosine};
-ghost use Rattle.arcs_c.specs.Both.{refusalOfTwo, withTwo};
+ghost use Rattle.arcs_c.specs.Exported.{NumbersGiven};
+pub use closed::arcs_hit;
+pub use closed::arcs_intersect_segment_arc;
+pub use closed::arcs_intersect_segments;
+pub use crossings::arcs_intersect;
 pub use crossings::arcs_intersect_arcs;
+pub use figures::arcs_circle_tangent_through;
+pub use figures::arcs_circumscribed_arc;
+pub use figures::arcs_fit_earc_tangent;
+pub use figures::arcs_point_to_arc_dist;
+pub use figures::arcs_svg_arc_to_center;
+pub use positions::arcs_arc_end_pos;
+pub use positions::arcs_arc_point_at;
+pub use positions::arcs_arc_start_pos;
+pub use positions::arcs_arc_tangent_at;
+pub use positions::arcs_ellipse_point;
+pub use positions::arcs_ellipse_tangent;
+pub use positions::arcs_line_line_intersection;
+pub use positions::arcs_point_to_segment_dist;
+pub use positions::arcs_project_onto_segment;
+pub use spans::arcs_arc_param_at_point;
+pub use spans::arcs_arc_param_in_span;
+pub use spans::arcs_arc_radii;
+pub use spans::arcs_arc_theta_of_pos;
+pub use spans::arcs_nearest_arc_param;
+pub use spans::arcs_norm_tau;
 
 #[no_mangle]
 pub extern "C" fn arcs_sqrt(x: f64) -> f64
@@ -34,15 +64,10 @@ pub extern "C" fn arcs_cos(x: f64) -> f64
 // The sine and the cosine to the first two numbers of `out`. Gives 0, or 4 where they do not fit, and then changes nothing.
 #[no_mangle]
 pub extern "C" fn arcs_sin_cos(x: f64, out: &mut [f64]) -> u32
-    ensures { λ r. ⌜ (r ≡ refusalOfTwo (now (out .entry))) × (now (out .exit) ≡ withTwo (now (out .entry)) (sine x) (cosine x)) ⌝ }
+    ensures { λ r. ⌜ NumbersGiven 0 (sine x ∷ cosine x ∷ []) (now (out .entry)) r (now (out .exit)) ⌝ }
 {
-    if out.len() < 2 {
-        return 4;
-    }
     let both = sine::sin_cos(x);
-    out[0] = both.sin;
-    out[1] = both.cos;
-    0
+    given::give(&[both.sin, both.cos], out)
 }
 
 #[no_mangle]

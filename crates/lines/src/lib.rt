@@ -1,5 +1,13 @@
 // One line of input, read.
+ghost use mathlib.Core.Path.{_≡_};
+ghost use Prim.Native.Nat.{_≤_};
+ghost use lib.ListN.{length};
+ghost use Rattle.lines.specs.Read.{segment, bow, query, readLine};
 use arc::Arc;
+use arc::Point;
+
+mod bytes;
+mod fields;
 
 // A line that is taken by its form. A record number above 64, however many digits it has, is held as 65.
 pub enum Line {
@@ -7,4 +15,110 @@ pub enum Line {
     Bow(Arc),
     Query(usize, usize, u32),
     Malformed,
+}
+
+// What a field of 16 hex digits or of one digit holds.
+enum Field {
+    Of(u64),
+    None,
+}
+
+// A record number and the place after its last digit.
+enum Numbered {
+    Of(usize, usize),
+    None,
+}
+
+enum Four {
+    Of(f64, f64, f64, f64),
+    None,
+}
+
+enum Three {
+    Of(f64, f64, f64),
+    None,
+}
+
+enum Marks {
+    Of(bool, bool, bool),
+    None,
+}
+
+fn segment(line: &[u8]) -> Line
+    ensures { λ r. ⌜ r ≡ segment (now (line .entry)) ⌝ }
+{
+    if line.len() == 69 {
+        let Four::Of(x1, y1, x2, y2) = fields::four(line, 1) else {
+            return Line::Malformed;
+        };
+        return Line::Segment(x1, y1, x2, y2);
+    }
+    Line::Malformed
+}
+
+fn bow(line: &[u8]) -> Line
+    ensures { λ r. ⌜ r ≡ bow (now (line .entry)) ⌝ }
+{
+    if line.len() == 126 {
+        let Four::Of(x, y, radius, radius_b) = fields::four(line, 1) else {
+            return Line::Malformed;
+        };
+        let Three::Of(rotation, start, end) = fields::three(line, 69) else {
+            return Line::Malformed;
+        };
+        let Marks::Of(ccw, closed, is_ellipse) = fields::marks(line, 120) else {
+            return Line::Malformed;
+        };
+        return Line::Bow(Arc {
+            center: Point { x: x, y: y },
+            radius: radius,
+            radius_b: radius_b,
+            rotation: rotation,
+            start: start,
+            end: end,
+            ccw: ccw,
+            closed: closed,
+            is_ellipse: is_ellipse,
+        });
+    }
+    Line::Malformed
+}
+
+fn query(line: &[u8]) -> Line
+    requires { ⌜ length (now line) ≤ 256 ⌝ }
+    ensures { λ r. ⌜ r ≡ query (now (line .entry)) ⌝ }
+{
+    let Numbered::Of(a, m) = fields::record(line, 1) else {
+        return Line::Malformed;
+    };
+    let Numbered::Of(b, n) = fields::record(line, m) else {
+        return Line::Malformed;
+    };
+    let Field::Of(depth) = fields::digit(line, n, 9) else {
+        return Line::Malformed;
+    };
+    if line.len() == n + 2 {
+        return Line::Query(a, b, depth as u32);
+    }
+    Line::Malformed
+}
+
+// One line without its newline.
+pub fn read(line: &[u8]) -> Line
+    ensures { λ r. ⌜ r ≡ readLine (now (line .entry)) ⌝ }
+{
+    if 256 < line.len() {
+        return Line::Malformed;
+    }
+    let kind = bytes::byte(line, 0);
+    if kind == 83 {
+        return segment(line);
+    }
+    if kind == 65 {
+        return bow(line);
+    }
+    if kind == 88 {
+        return query(line);
+    }
+    Line::Malformed
 }

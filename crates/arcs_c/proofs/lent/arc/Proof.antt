@@ -1,30 +1,29 @@
 -- `arcs_c::lent::arc` meets its contract. Assumes nothing.
 use mathlib.Core.Path.{refl}
 use Rattle.arcs_c.specs.Lent.{lentArc}
-use borrow.Author.Needs.{needs}
 use Rattle.arcs_c.proofs.lent.arc.Statement.{statement}
 use Rattle.arcs_c.proofs.lent.arc.Tie as tie
 
 number-requires : tie.Need-number-requires
-number-requires c κs = search needs
+number-requires c κs = tt
 
 number-requires-2 : tie.Need-number-requires-2
-number-requires-2 c κs = search needs
+number-requires-2 c κs = tt
 
 number-requires-3 : tie.Need-number-requires-3
-number-requires-3 c κs = search needs
+number-requires-3 c κs = tt
 
 number-requires-4 : tie.Need-number-requires-4
-number-requires-4 c κs = search needs
+number-requires-4 c κs = tt
 
 number-requires-5 : tie.Need-number-requires-5
-number-requires-5 c κs = search needs
+number-requires-5 c κs = tt
 
 number-requires-6 : tie.Need-number-requires-6
-number-requires-6 c κs = search needs
+number-requires-6 c κs = tt
 
 number-requires-7 : tie.Need-number-requires-7
-number-requires-7 c κs = search needs
+number-requires-7 c κs = tt
 
 returns : tie.Need-returns
 unfolding lentArc

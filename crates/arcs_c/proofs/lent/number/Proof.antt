@@ -19,7 +19,7 @@ unfolding lentNumber
 returns c = let a = c .before .before .before .args in getD-within (a .numbers .now) (a .i) _ nan (c .before .if1 .taken)
 
 not-a-number-requires : tie.Need-not-a-number-requires
-not-a-number-requires c κs = search needs
+not-a-number-requires c κs = tt
 
 returns-2 : tie.Need-returns-2
 unfolding lentNumber

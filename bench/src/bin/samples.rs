@@ -1,0 +1,65 @@
+//! Answers of the oracle over all public calls, for a program to replay. `bench/run samples [SEED]`
+//!
+//! One call a line, fields parted by one tab. Every field is a whole number in lower-case hex digits:
+//!
+//! - the number of the call;
+//! - n, how many inputs follow;
+//! - n inputs, 16 digits each;
+//! - the refusal, 0 for none;
+//! - m, how many outputs follow, 0 where the call is refused;
+//! - m outputs, 16 digits each.
+//!
+//! A number is its bits, every NaN given back being 7ff8000000000000; marks, flags, counts, lengths and the depth are whole
+//! numbers. An arc is eight inputs: center x, center y, radius, radius_b, rotation, start, end, marks (1 ccw, 2 closed,
+//! 4 ellipse). A curve is an arc, or where its marks are 8 a segment: x1, y1, x2, y2 and three zeros that count for nothing.
+//! `room` is how many numbers are lent.
+//!
+//! | number | call | inputs | outputs |
+//! |---|---|---|---|
+//! | 1 | ellipse_point | center x, y, rx, ry, rot, t | x, y |
+//! | 2 | ellipse_tangent | rx, ry, rot, t | x, y |
+//! | 3, 4 | arc_point_at, arc_tangent_at | arc, t | x, y |
+//! | 5, 6 | arc_start_pos, arc_end_pos | arc | x, y |
+//! | 7 | norm_tau | v | angle |
+//! | 8 | arc_param_in_span | arc, theta | angle |
+//! | 9 | arc_radii | arc | both radii |
+//! | a, b | arc_theta_of_pos, arc_param_at_point | arc, x, y | angle |
+//! | c | point_to_segment_dist | x, y of p, a, b | distance |
+//! | d | project_onto_segment | x, y of p, a, b | x, y |
+//! | e | line_line_intersection | x, y of p1, p2, p3, p4 | x, y |
+//! | f | intersect_segments | x, y of a1, a2, b1, b2; room | hits; t_a, t_b, x, y of each |
+//! | 10 | intersect_segment_arc | x, y of p1, p2; arc; room | hits; t_a, t_b, x, y of each |
+//! | 11 | intersect_arcs | arc, arc, depth, room | hits, brackets, outside a, outside b, doubles, evaluations; t_a, t_b, x, y of each hit |
+//! | 12 | intersect | curve, curve, depth, room | as 11 |
+//! | 13 | hit | twelve numbers, how many of them are the room, count, index | t_a, t_b, x, y, or nothing |
+//! | 14 | point_to_arc_dist | x, y, arc | distance, x, y |
+//! | 15 | nearest_arc_param | arc, x, y | angle |
+//! | 16 | svg_arc_to_center | x, y of p1, p2; rx, ry, rotation, large, sweep | center x, y, start, end, rx, ry |
+//! | 17 | circumscribed_arc | x, y of p1, p2, p3 | center x, y, radius, start, end, ccw as 1.0 or 0.0 |
+//! | 18 | circle_tangent_through | x, y of s, e, t | center x, y, radius |
+//! | 19 | fit_earc_tangent | x, y of p1, t1, p2, t2; bulge | center x, y, rx, ry, rotation, start, end, ccw as 1.0 or 0.0 |
+use bench::calls::{Arcs, Call, CALLS};
+use bench::{cases::case, seed, Random};
+
+const EACH: usize = 160;
+/// Of the slow pairs.
+const SEARCHED: usize = 100;
+/// The longest answer that is kept: six counts and 16 hits.
+const LONGEST: usize = 70;
+
+fn line(call: &Call, words: &[u64]) -> Option<String> {
+    let told = call.told(words);
+    let fields = |words: &[u64]| words.iter().map(|w| format!("\t{w:016x}")).collect::<String>();
+    (told.numbers.len() <= LONGEST).then(|| {
+        format!("{:x}\t{:x}{}\t{:x}\t{:x}{}", call.number, words.len(), fields(words), told.refusal, told.numbers.len(), fields(&told.numbers))
+    })
+}
+
+fn main() {
+    let mut random = Random(seed());
+    for call in CALLS {
+        let count = if call.arcs == Arcs::Searched { SEARCHED } else { EACH };
+        let lines = std::iter::repeat_with(|| line(call, &case(call, &mut random))).flatten().take(count);
+        lines.for_each(|line| println!("{line}"));
+    }
+}

@@ -1,0 +1,44 @@
+-- `arcs_c::given::give_number` meets its contract. Assumes nothing.
+use Rattle.arcs_c.specs.Exported.{NumbersOut, floats}
+use Rattle.arcs_c.proofs.Rooms.{none-out}
+use borrow.Author.Needs.{needs}
+use Rattle.arcs_c.proofs.given.give_number.Statement.{statement}
+use Rattle.arcs_c.proofs.given.give_number.Tie as tie
+
+enum-known-n : tie.Need-enum-known-n
+enum-known-n c = search needs
+
+slice-aggregate-give : tie.Need-slice-aggregate-give
+slice-aggregate-give c = search needs
+
+give-requires : tie.Need-give-requires
+give-requires c κs = tt
+
+enum-known-n-2 : tie.Need-enum-known-n-2
+enum-known-n-2 c = search needs
+
+cast-result : tie.Need-cast-result
+cast-result c = search needs
+
+same-length : tie.Need-same-length
+same-length c = search needs
+
+returns : tie.Need-returns
+unfolding NumbersOut floats
+returns c = rw (c .before .before .before .before .before .before .n .given .1) (c .before .before .give .ensures)
+
+returns-2 : tie.Need-returns-2
+returns-2 c = rw (c .before .n2 .given .1) (none-out _ _)
+
+pub give-number-spec : {M : Type 1} → statement M
+give-number-spec =
+    tie.close
+    (tie.spec
+    enum-known-n
+    slice-aggregate-give
+    give-requires
+    enum-known-n-2
+    cast-result
+    same-length
+    returns
+    returns-2)

@@ -1,0 +1,112 @@
+// Crossings in closed form, and a single hit: the hits go to one lent room, the count to another.
+ghost use mathlib.Core.Path.{_≡_};
+ghost use Prim.Native.Nat.{_≤_};
+ghost use lib.ListN.{length};
+ghost use Rattle.hits.specs.Hit.{hitPart};
+ghost use Rattle.checks.specs.Answer.{foundTold};
+ghost use Rattle.queries.specs.Curves.{at};
+ghost use Rattle.arcs_c.specs.Lent.{lentArc, placed};
+ghost use Rattle.arcs_c.specs.Exported.{SegmentsOut, SegmentArcOut, HitOut};
+use crate::given;
+use crate::lent;
+use arc::Point;
+use arcs::Found;
+
+fn refused(f: Found) -> u32
+    ensures { λ r. ⌜ r ≡ foundTold f .refusal ⌝ }
+{
+    match f {
+        Found::Hits(_) => 0,
+        Found::Refused(no) => no as u32,
+    }
+}
+
+// How many hits, to the first place of `counts`.
+fn count(f: Found, counts: &mut [u64])
+    requires { ⌜ 1 ≤ length (now counts) ⌝ }
+    ensures { λ _. ⌜ now (counts .exit) ≡ placed (foundTold f .counts) 0 (now (counts .entry)) ⌝ }
+{
+    match f {
+        Found::Hits(n) => {
+            counts[0] = n as u64;
+        }
+        Found::Refused(_) => {}
+    }
+}
+
+#[no_mangle]
+pub extern "C" fn arcs_intersect_segments(
+    ax1: f64,
+    ay1: f64,
+    ax2: f64,
+    ay2: f64,
+    bx1: f64,
+    by1: f64,
+    bx2: f64,
+    by2: f64,
+    room: &mut [f64],
+    counts: &mut [u64],
+) -> u32
+    ensures { λ r. ⌜ SegmentsOut (at ax1 ay1) (at ax2 ay2) (at bx1 by1) (at bx2 by2) (now (room .entry)) (now (counts .entry)) r (now (room .exit)) (now (counts .exit)) ⌝ }
+{
+    let a1 = Point { x: ax1, y: ay1 };
+    let a2 = Point { x: ax2, y: ay2 };
+    let b1 = Point { x: bx1, y: by1 };
+    let b2 = Point { x: bx2, y: by2 };
+    if counts.len() < 1 {
+        // The library refuses a room of one number, after its other refusals.
+        let mut one = [0.0; 1];
+        return refused(arcs::intersect_segments(a1, a2, b1, b2, &mut one));
+    }
+    let f = arcs::intersect_segments(a1, a2, b1, b2, room);
+    count(f, counts);
+    refused(f)
+}
+
+#[no_mangle]
+pub extern "C" fn arcs_intersect_segment_arc(
+    x1: f64,
+    y1: f64,
+    x2: f64,
+    y2: f64,
+    a: &[f64],
+    a_marks: u32,
+    room: &mut [f64],
+    counts: &mut [u64],
+) -> u32
+    ensures { λ r. ⌜ SegmentArcOut (at x1 y1) (at x2 y2) (lentArc (now (a .entry)) «a_marks») (now (room .entry)) (now (counts .entry)) r (now (room .exit)) (now (counts .exit)) ⌝ }
+{
+    let p1 = Point { x: x1, y: y1 };
+    let p2 = Point { x: x2, y: y2 };
+    let q = lent::arc(a, a_marks);
+    if counts.len() < 1 {
+        let mut one = [0.0; 1];
+        return refused(arcs::intersect_segment_arc(p1, p2, q, &mut one));
+    }
+    let f = arcs::intersect_segment_arc(p1, p2, q, room);
+    count(f, counts);
+    refused(f)
+}
+
+// The four numbers of the hit i of so many to `out`, and to `counts` how many they are: 4, or 0 where there is no such hit.
+#[no_mangle]
+pub extern "C" fn arcs_hit(
+    room: &[f64],
+    count: usize,
+    i: usize,
+    out: &mut [f64],
+    counts: &mut [u64],
+) -> u32
+    ensures { λ r. ⌜ HitOut (hitPart (now (room .entry)) count i) (now (out .entry)) (now (counts .entry)) r (now (out .exit)) (now (counts .exit)) ⌝ }
+{
+    if out.len() < 4 {
+        return 4;
+    }
+    if counts.len() < 1 {
+        return 4;
+    }
+    let part = arcs::hit(room, count, i);
+    given::place(part, out);
+    counts[0] = part.len() as u64;
+    0
+}

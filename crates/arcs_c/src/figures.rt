@@ -1,0 +1,119 @@
+// Distances to arcs, arcs and circles from points: the library's answer goes to `out`, the refusal's number is given back.
+ghost use mathlib.Core.Bool.{not};
+ghost use lib.Dec.{eqb};
+ghost use Rattle.queries.specs.Curves.{at};
+ghost use Rattle.arcs_c.specs.Lent.{lentArc};
+ghost use Rattle.arcs_c.specs.Exported.{NumbersOut};
+ghost use Rattle.arcs_c.specs.Told.{pointToArcDistTold, svgArcToCenterTold, circumscribedArcTold, circleTangentThroughTold, fitEarcTangentTold};
+use crate::given;
+use crate::lent;
+use arc::Point;
+
+#[no_mangle]
+pub extern "C" fn arcs_point_to_arc_dist(
+    px: f64,
+    py: f64,
+    a: &[f64],
+    a_marks: u32,
+    out: &mut [f64],
+) -> u32
+    ensures { λ r. ⌜ NumbersOut (pointToArcDistTold (at px py) (lentArc (now (a .entry)) «a_marks»)) (now (out .entry)) r (now (out .exit)) ⌝ }
+{
+    let told = arcs::point_to_arc_dist(Point { x: px, y: py }, lent::arc(a, a_marks));
+    given::give_distance(told, out)
+}
+
+// A flag is set where it is not 0.
+#[no_mangle]
+pub extern "C" fn arcs_svg_arc_to_center(
+    x1: f64,
+    y1: f64,
+    x2: f64,
+    y2: f64,
+    rx: f64,
+    ry: f64,
+    rotation: f64,
+    large_arc: u32,
+    sweep: u32,
+    out: &mut [f64],
+) -> u32
+    ensures { λ r. ⌜ NumbersOut (svgArcToCenterTold (at x1 y1) (at x2 y2) rx ry rotation (not (eqb «large_arc» 0)) (not (eqb sweep 0))) (now (out .entry)) r (now (out .exit)) ⌝ }
+{
+    let told = arcs::svg_arc_to_center(
+        Point { x: x1, y: y1 },
+        Point { x: x2, y: y2 },
+        rx,
+        ry,
+        rotation,
+        large_arc != 0,
+        sweep != 0,
+    );
+    given::give_center(told, out)
+}
+
+#[no_mangle]
+pub extern "C" fn arcs_circumscribed_arc(
+    x1: f64,
+    y1: f64,
+    x2: f64,
+    y2: f64,
+    x3: f64,
+    y3: f64,
+    out: &mut [f64],
+) -> u32
+    ensures { λ r. ⌜ NumbersOut (circumscribedArcTold (at x1 y1) (at x2 y2) (at x3 y3)) (now (out .entry)) r (now (out .exit)) ⌝ }
+{
+    let told = arcs::circumscribed_arc(
+        Point { x: x1, y: y1 },
+        Point { x: x2, y: y2 },
+        Point { x: x3, y: y3 },
+    );
+    given::give_through(told, out)
+}
+
+// (tx, ty) is a direction.
+#[no_mangle]
+pub extern "C" fn arcs_circle_tangent_through(
+    sx: f64,
+    sy: f64,
+    ex: f64,
+    ey: f64,
+    tx: f64,
+    ty: f64,
+    out: &mut [f64],
+) -> u32
+    ensures { λ r. ⌜ NumbersOut (circleTangentThroughTold (at sx sy) (at ex ey) (at tx ty)) (now (out .entry)) r (now (out .exit)) ⌝ }
+{
+    let told = arcs::circle_tangent_through(
+        Point { x: sx, y: sy },
+        Point { x: ex, y: ey },
+        Point { x: tx, y: ty },
+    );
+    given::give_tangent(told, out)
+}
+
+// (tx1, ty1) and (tx2, ty2) are directions.
+#[no_mangle]
+pub extern "C" fn arcs_fit_earc_tangent(
+    x1: f64,
+    y1: f64,
+    tx1: f64,
+    ty1: f64,
+    x2: f64,
+    y2: f64,
+    tx2: f64,
+    ty2: f64,
+    bulge: f64,
+    out: &mut [f64],
+) -> u32
+    ensures { λ r. ⌜ NumbersOut (fitEarcTangentTold (at x1 y1) (at tx1 ty1) (at x2 y2) (at tx2 ty2) bulge) (now (out .entry)) r (now (out .exit)) ⌝ }
+{
+    let told = arcs::fit_earc_tangent(
+        Point { x: x1, y: y1 },
+        Point { x: tx1, y: ty1 },
+        Point { x: x2, y: y2 },
+        Point { x: tx2, y: ty2 },
+        bulge,
+    );
+    given::give_fitted(told, out)
+}

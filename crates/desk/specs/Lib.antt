@@ -1,0 +1,7 @@
+-- What the contracts of the crate cite.
+pub mod Table
+pub mod Refused
+pub mod Printed
+pub mod Hits
+pub mod Reply
+pub mod Answer

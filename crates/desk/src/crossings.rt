@@ -1,0 +1,93 @@
+// The crossings of two records, and their lines.
+ghost use mathlib.Core.Path.{_≡_};
+ghost use mathlib.Core.List.{List};
+ghost use Prim.Native.Nat.{_*_, _<_, _≤_, _/_};
+ghost use lib.ListN.{length};
+ghost use lib.Ieee.{Float};
+ghost use Rattle.hits.specs.declared.CurveHit.{CurveHit};
+ghost use Rattle.hits.specs.Hit.{hitSize, written};
+ghost use Rattle.queries.specs.Curves.{curvesOutcome};
+ghost use Rattle.digits.specs.Spliced.{Put};
+ghost use Rattle.desk.specs.Table.{recordAt};
+ghost use Rattle.desk.specs.Refused.{pairRefusal, queryRefusal};
+ghost use Rattle.desk.specs.Printed.{hitLines};
+ghost use Rattle.desk.specs.Hits.{hitAt};
+ghost use Rattle.desk.specs.Reply.{crossed, unless};
+ghost use Rattle.desk.specs.Answer.{roomNeed, outNeed, Shows};
+use crate::Table;
+use crate::printing;
+use crate::records;
+use arc::Point;
+use checks::Hunted;
+use hits::CurveHit;
+use hits::HIT;
+use queries::Curve;
+
+// The hit i of those in the room.
+fn hit_at(room: &[f64], i: usize) -> CurveHit
+    requires { ⌜ i < length (now room) / hitSize ⌝ }
+    ensures { λ r. ⌜ r ≡ hitAt (now (room .entry)) i ⌝ }
+{
+    let from = i * HIT;
+    CurveHit {
+        t_a: room[from],
+        t_b: room[from + 1],
+        pos: Point {
+            x: room[from + 2],
+            y: room[from + 3],
+        },
+    }
+}
+
+// The lines of the hits in the room, numbered from 1.
+fn put_hits(out: &mut [u8], line: u64, room: &[f64], hits: usize) -> usize
+    requires { ⌜ (hits ≤ length (now room) / hitSize) × (112 * hits ≤ length (now out)) ⌝ }
+    ensures { λ r. ⌜ ((hs : List CurveHit) (lent : List Float) → hits ≡ length hs → now (room .entry) ≡ written hs lent → Put (now (out .entry)) 0 (hitLines line 1 hs) r (now (out .exit))) ⌝ }
+{
+    let mut at: usize = 0;
+    let mut i: usize = 0;
+    while i < hits {
+        let h = hit_at(room, i);
+        at = printing::hit_line(out, at, line, (i + 1) as u64, h);
+        i += 1;
+    }
+    at
+}
+
+// The crossings of two records.
+fn cross(a: Curve, b: Curve, depth: u32, line: u64, room: &mut [f64], out: &mut [u8]) -> usize
+    requires { ⌜ (roomNeed ≤ length (now room)) × (outNeed ≤ length (now out)) ⌝ }
+    ensures { λ r. ⌜ Shows (unless (pairRefusal a b depth) line (crossed line (curvesOutcome a b depth))) (now (room .entry)) (now (out .entry)) r (now (room .exit)) (now (out .exit)) ⌝ }
+{
+    match queries::intersect(a, b, depth, room) {
+        Hunted::Counts(t) => {
+            let at = put_hits(out, line, room, t.hits);
+            printing::end_line(out, at, line, t)
+        }
+        Hunted::Refused(no) => printing::refused_line(out, line, no),
+    }
+}
+
+// A query: the lines to print, and none of it changes the table.
+pub fn query(
+    table: Table,
+    i: usize,
+    j: usize,
+    depth: u32,
+    line: u64,
+    room: &mut [f64],
+    out: &mut [u8],
+) -> usize
+    requires { ⌜ (roomNeed ≤ length (now room)) × (outNeed ≤ length (now out)) ⌝ }
+    ensures { λ r. ⌜ Shows (unless (queryRefusal table i j depth) line (crossed line (curvesOutcome (recordAt table i) (recordAt table j) depth))) (now (room .entry)) (now (out .entry)) r (now (room .exit)) (now (out .exit)) ⌝ }
+{
+    let count = table.count;
+    let first = records::held(count, i);
+    let second = records::held(count, j);
+    if first & second {
+        let a = records::record_at(table, i);
+        let b = records::record_at(table, j);
+        return cross(a, b, depth, line, room, out);
+    }
+    printing::refused_line(out, line, 8)
+}

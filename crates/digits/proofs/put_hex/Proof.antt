@@ -1,0 +1,71 @@
+-- `put_hex` writes the last digit first. The invariant: with the digits that are left, the buffer is as promised. Assumes nothing.
+use mathlib.Core.Path.{_≡_, refl, sym, ap, _∙_}
+use Prim.Native.Nat.{ℕ, _+_, _≤_}
+use native.Mathlib.Omega.{arith}
+use lib.ListN.{length, length-set}
+use Rattle.digits.specs.Hex.{hexDigits}
+use Rattle.digits.specs.Spliced.{spliced}
+use Rattle.digits.proofs.Digits.{hex-length, hex-step, hex-done}
+use Rattle.digits.proofs.put_hex.Statement.{statement}
+use Rattle.digits.proofs.put_hex.Tie as tie
+
+abbrev Inv-loop : tie.InvT-loop
+Inv-loop out₀ at n rest₀ left₀ out rest left = (left ≤ 16) × (length out ≡ length out₀) × (spliced out at (hexDigits left rest) ≡ spliced out₀ at (hexDigits 16 n))
+
+abbrev μ-loop : tie.MeasureT-loop
+μ-loop out₀ at n rest₀ left₀ out rest left = left
+
+loop-holds : tie.Need-loop-holds Inv-loop μ-loop
+loop-holds c = (omega arith, refl, refl)
+
+sub-left : tie.Need-sub-left Inv-loop μ-loop
+sub-left c = omega arith
+
+hex-digit-requires : tie.Need-hex-digit-requires Inv-loop μ-loop
+hex-digit-requires c κs = omega arith
+
+add-out : tie.Need-add-out Inv-loop μ-loop
+add-out c = omega arith
+
+slice-write-out : tie.Need-slice-write-out Inv-loop μ-loop
+slice-write-out c = omega arith
+
+loop-less : tie.Need-loop-less Inv-loop μ-loop
+loop-less c = omega arith
+
+loop-again : tie.Need-loop-again Inv-loop μ-loop
+loop-again c =
+    let l = c .before .before .loop in
+    let z = c .before .before .before .before .args in
+    let step = hex-step (l .out) (z .at) (l .left) (l .rest) (omega arith) (omega arith) in
+    (omega arith, simp length-set (l .inv .1), rw (c .hex-digit .ensures) (step ∙ l .inv .2))
+
+add-result : tie.Need-add-result Inv-loop μ-loop
+add-result c = omega arith
+
+same-length : tie.Need-same-length Inv-loop μ-loop
+same-length c = omega arith
+
+returns : tie.Need-returns Inv-loop μ-loop
+returns c =
+    let l = c .before .loop in
+    let z = c .before .before .before .args in
+    let none : l .left ≡ 0 = omega arith in
+    record { place = ap (λ (i : ℕ). z .at + i) (sym (hex-length 16 (z .n))); out = hex-done (l .out) (z .at) (l .left) (l .rest) none ∙ l .inv .2 }
+
+pub put-hex-spec : {M : Type 1} → statement M
+put-hex-spec =
+    tie.close
+    (tie.spec
+    Inv-loop
+    μ-loop
+    loop-holds
+    sub-left
+    hex-digit-requires
+    add-out
+    slice-write-out
+    loop-less
+    loop-again
+    add-result
+    same-length
+    returns)

@@ -1,0 +1,88 @@
+-- 01, 'The program arcdesk and its lines': "one record a line, fields parted by one tab, at most 256 bytes without the newline. Numbers are 16 lower-case hex digits of the f64's bits.
+-- `S` and four coordinates; `A`, centre x and y, radius, radius_b, rotation, start, end, and three digits 0 or 1 for ccw, closed, ellipse; `X`, two record numbers, depth as one digit."
+-- What bytes a line consists of, without a reader. Definitions only. Assumes nothing.
+use Prim.Native.Nat.{ℕ, _+_, _*_, _-_, _^_, _≤_, _<_, min}
+use mathlib.Core.Path.{_≡_}
+use mathlib.Core.Bool.{Bool, cond}
+use mathlib.Core.List.{List, [], _∷_, _++_}
+use lib.ListN.{length}
+use lib.Ieee.{Float, ofBits, binary64}
+use Rattle.digits.specs.Hex.{hex}
+use Rattle.digits.specs.Decimal.{decimalDigit}
+use Rattle.arc.specs.declared.Arc.{Arc}
+use Rattle.lines.specs.declared.Line.{Line}
+use Rattle.lines.specs.declared.Line.the-variants.{Segment, Bow, Query, Malformed}
+
+-- fields, each after a tab
+unfoldable pub tabbed : List (List ℕ) → List ℕ
+tabbed [] = []
+tabbed (f ∷ fs) = 9 ∷ (f ++ tabbed fs)
+
+-- the bits that a number was written by; every pattern of a NaN gives the NaN
+pub record Bits (x : Float) : Type 0 where
+  pub bits : ℕ
+  pub small : bits < 2 ^ 64
+  pub number : x ≡ ofBits binary64 bits
+
+abbrev pub digits : {x : Float} → Bits x → List ℕ
+digits b = hex (b .bits)
+
+abbrev pub mark : Bool → List ℕ
+mark b = decimalDigit (cond b 1 0) ∷ []
+
+-- ---- "Records are numbered from 1, decimal without leading zeros"
+unfoldable pub Digits : List ℕ → Type 0
+Digits [] = Unit
+Digits (d ∷ ds) = (48 ≤ d) × (d ≤ 57) × Digits ds
+
+unfoldable pub Numeral : List ℕ → Type 0
+Numeral [] = ⊥
+Numeral (d ∷ ds) = (49 ≤ d) × (d ≤ 57) × Digits ds
+
+-- digits that come after the value v
+unfoldable pub valueAfter : ℕ → List ℕ → ℕ
+valueAfter v [] = v
+valueAfter v (d ∷ ds) = valueAfter (v * 10 + (d - 48)) ds
+
+-- "a record number above 64, however many digits it has, is one not in the table": all of these are 65
+abbrev pub capped : ℕ → ℕ
+capped n = min n 65
+
+pub record Numerals (n : ℕ) : Type 0 where
+  pub digits : List ℕ
+  pub numeral : Numeral digits
+  pub number : n ≡ capped (valueAfter 0 digits)
+
+-- ---- the three kinds of line
+pub record SaysSegment (line : List ℕ) (x1 y1 x2 y2 : Float) : Type 0 where
+  pub a : Bits x1
+  pub b : Bits y1
+  pub c : Bits x2
+  pub d : Bits y2
+  pub text : line ≡ 83 ∷ tabbed (digits a ∷ digits b ∷ digits c ∷ digits d ∷ [])
+
+pub record SaysBow (line : List ℕ) (e : Arc) : Type 0 where
+  pub x : Bits (e .center .x)
+  pub y : Bits (e .center .y)
+  pub r : Bits (e .radius)
+  pub s : Bits (e .«radius_b»)
+  pub turn : Bits (e .rotation)
+  pub start : Bits (e .start)
+  pub end : Bits (e .end)
+  pub text : line ≡ 65 ∷ tabbed (digits x ∷ digits y ∷ digits r ∷ digits s ∷ digits turn ∷ digits start ∷ digits end ∷ mark (e .ccw) ∷ mark (e .closed) ∷ mark (e .«is_ellipse») ∷ [])
+
+pub record SaysQuery (line : List ℕ) (a b depth : ℕ) : Type 0 where
+  pub first : Numerals a
+  pub second : Numerals b
+  pub digit : depth < 10
+  pub text : line ≡ 88 ∷ tabbed (first .digits ∷ second .digits ∷ (decimalDigit depth ∷ []) ∷ [])
+
+unfoldable pub Form : List ℕ → Line → Type 0
+Form line (Segment x1 y1 x2 y2) = SaysSegment line x1 y1 x2 y2
+Form line (Bow e) = SaysBow line e
+Form line (Query a b depth) = SaysQuery line a b depth
+Form line Malformed = ⊥
+
+pub record Says (line : List ℕ) (l : Line) : Type 0 where
+  pub short : length line ≤ 256
+  pub form : Form line l
