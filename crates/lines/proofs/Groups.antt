@@ -14,7 +14,7 @@ use Rattle.lines.specs.declared.Field.the-variants as field
 use Rattle.lines.specs.declared.Four.the-variants as four
 use Rattle.lines.specs.declared.Three.the-variants as three
 use Rattle.lines.specs.declared.Marks.the-variants as marks
-use Rattle.lines.specs.Grammar.{tabbed, Bits, digits, mark}
+use Rattle.lines.specs.Grammar.{tabbed, Bits, written, mark}
 use Rattle.lines.specs.Field.{digitAt}
 use Rattle.lines.specs.Fields.{fourOf, fourAt, threeOf, threeAt, marksOf, marksAt}
 use Rattle.lines.proofs.Taken.{digit-taken}
@@ -37,7 +37,7 @@ pub record FourText (line : List ℕ) (at next : ℕ) (x y z w : Float) : Type 0
   pub b : Bits y
   pub c : Bits z
   pub d : Bits w
-  pub text : (fs : List (List ℕ)) → drop next line ≡ tabbed fs → drop at line ≡ tabbed (digits a ∷ digits b ∷ digits c ∷ digits d ∷ fs)
+  pub text : (fs : List (List ℕ)) → drop next line ≡ tabbed fs → drop at line ≡ tabbed (written a ∷ written b ∷ written c ∷ written d ∷ fs)
 
 pub four-text : (line : List ℕ) (at next : ℕ) (x y z w : Float) → next ≡ at + 68 → fourAt line at ≡ four.Of x y z w → FourText line at next x y z w
 unfolding fourAt
@@ -64,7 +64,7 @@ pub record ThreeText (line : List ℕ) (at next : ℕ) (x y z : Float) : Type 0 
   pub a : Bits x
   pub b : Bits y
   pub c : Bits z
-  pub text : (fs : List (List ℕ)) → drop next line ≡ tabbed fs → drop at line ≡ tabbed (digits a ∷ digits b ∷ digits c ∷ fs)
+  pub text : (fs : List (List ℕ)) → drop next line ≡ tabbed fs → drop at line ≡ tabbed (written a ∷ written b ∷ written c ∷ fs)
 
 pub three-text : (line : List ℕ) (at next : ℕ) (x y z : Float) → next ≡ at + 51 → threeAt line at ≡ three.Of x y z → ThreeText line at next x y z
 unfolding threeAt

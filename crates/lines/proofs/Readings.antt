@@ -14,7 +14,7 @@ use Rattle.lines.specs.declared.Numbered.the-variants as numbered
 use Rattle.lines.specs.declared.Four.the-variants as four
 use Rattle.lines.specs.declared.Three.the-variants as three
 use Rattle.lines.specs.declared.Marks.the-variants as marks
-use Rattle.lines.specs.Grammar.{tabbed, Bits, digits, mark, Numeral, Numerals}
+use Rattle.lines.specs.Grammar.{tabbed, Bits, written, mark, Numeral, RecordNumber}
 use Rattle.lines.specs.Digit.{digitValue}
 use Rattle.lines.specs.Field.{bitsAfter, numberAt, digitAt, run, runAt, recordAt}
 use Rattle.lines.specs.Fields.{fourAt, threeAt, marksAt}
@@ -38,12 +38,12 @@ module _ (line : List ℕ) (at : ℕ) (fs : List (List ℕ)) where
   unfolding tabbed
   after-tab f e = (byte-at line at 9 _ e, past line at (9 ∷ []) _ 1 refl e)
 
-  pub number-read : (next : ℕ) {x : Float} (b : Bits x) → next ≡ at + 17 → drop at line ≡ tabbed (digits b ∷ fs) → (numberAt line at ≡ field.Of (b .bits)) × (drop next line ≡ tabbed fs)
+  pub number-read : (next : ℕ) {x : Float} (b : Bits x) → next ≡ at + 17 → drop at line ≡ tabbed (written b ∷ fs) → (numberAt line at ≡ field.Of (b .bits)) × (drop next line ≡ tabbed fs)
   number-read next b n e =
-      let t = after-tab (digits b) e in
+      let t = after-tab (written b) e in
       let m : at + 1 + 16 ≡ next = omega arith in (
         number-tab line at (t .0) ∙ ap (bitsAfter 16 0) (t .1) ∙ hex-back (b .bits) (tabbed fs) (b .small),
-        rw m at (past line (at + 1) (digits b) (tabbed fs) 16 (hex-length 16 (b .bits)) (t .1)),
+        rw m at (past line (at + 1) (written b) (tabbed fs) 16 (hex-length 16 (b .bits)) (t .1)),
       )
 
   pub digit-read : (next top d : ℕ) → top ≤ 9 → d ≤ top → next ≡ at + 2 → drop at line ≡ tabbed ((decimalDigit d ∷ []) ∷ fs) → (digitAt line at top ≡ field.Of d) × (drop next line ≡ tabbed fs)
@@ -62,7 +62,7 @@ module _ (line : List ℕ) (at : ℕ) (fs : List (List ℕ)) where
       let v = digit-value d (omega (arith, h .0)) (h .1) in
       rw b (omega (arith, v, h .0, h .1))
 
-  pub record-read : {v : ℕ} (n : Numerals v) → drop at line ≡ tabbed (n .digits ∷ fs) → (recordAt line at ≡ numbered.Of v (at + 1 + length (n .digits))) × (drop (at + 1 + length (n .digits)) line ≡ tabbed fs)
+  pub record-read : {v : ℕ} (n : RecordNumber v) → drop at line ≡ tabbed (n .digits ∷ fs) → (recordAt line at ≡ numbered.Of v (at + 1 + length (n .digits))) × (drop (at + 1 + length (n .digits)) line ≡ tabbed fs)
   unfolding runAt
   record-read n e =
       let t = after-tab (n .digits) e in
@@ -82,7 +82,7 @@ mark-back true = refl
 mark-back false = refl
 
 module _ (line : List ℕ) (at next : ℕ) where
-  pub four-read : {x y z w : Float} (a : Bits x) (b : Bits y) (c : Bits z) (d : Bits w) (fs : List (List ℕ)) → next ≡ at + 68 → drop at line ≡ tabbed (digits a ∷ digits b ∷ digits c ∷ digits d ∷ fs)
+  pub four-read : {x y z w : Float} (a : Bits x) (b : Bits y) (c : Bits z) (d : Bits w) (fs : List (List ℕ)) → next ≡ at + 68 → drop at line ≡ tabbed (written a ∷ written b ∷ written c ∷ written d ∷ fs)
       → (fourAt line at ≡ four.Of x y z w) × (drop next line ≡ tabbed fs)
   unfolding fourAt
   four-read a b c d fs n e =
@@ -92,7 +92,7 @@ module _ (line : List ℕ) (at next : ℕ) where
       let s = number-read line (at + 51) fs next d (omega arith) (r .1) in
       (rw (p .0, q .0, r .0, s .0, a .number, b .number, c .number, d .number), s .1)
 
-  pub three-read : {x y z : Float} (a : Bits x) (b : Bits y) (c : Bits z) (fs : List (List ℕ)) → next ≡ at + 51 → drop at line ≡ tabbed (digits a ∷ digits b ∷ digits c ∷ fs)
+  pub three-read : {x y z : Float} (a : Bits x) (b : Bits y) (c : Bits z) (fs : List (List ℕ)) → next ≡ at + 51 → drop at line ≡ tabbed (written a ∷ written b ∷ written c ∷ fs)
       → (threeAt line at ≡ three.Of x y z) × (drop next line ≡ tabbed fs)
   unfolding threeAt
   three-read a b c fs n e =

@@ -6,7 +6,7 @@ use native.Mathlib.Decide.{decLt}
 use native.Mathlib.Omega.{arith}
 use lib.ListN.{length, drop}
 use borrow.Author.Tests.{lt-leb, le-leb}
-use Rattle.lines.specs.Grammar.{tabbed, Digits, Numeral}
+use Rattle.lines.specs.Grammar.{tabbed, AllDigits, Numeral}
 use Rattle.lines.specs.Digit.{digitValue}
 use Rattle.lines.specs.Field.{run}
 use Rattle.lines.proofs.Digits.{digit-value, digit-of}
@@ -29,8 +29,8 @@ run-split (b ∷ bs) =
       | no h ↦ let l : 10 ≤ digitValue b = omega arith in rw (run-none b bs l) refl
     ]
 
-run-digits : (bs : List ℕ) → Digits (run bs)
-unfolding run Digits
+run-digits : (bs : List ℕ) → AllDigits (run bs)
+unfolding run AllDigits
 run-digits [] = tt
 run-digits (b ∷ bs) =
     elim (decLt (digitValue b) 10) [
@@ -51,14 +51,14 @@ unfolding run tabbed digitValue
 run-tabbed [] = refl
 run-tabbed (f ∷ fs) = refl
 
-pub run-read : (ds : List ℕ) (fs : List (List ℕ)) → Digits ds → run (ds ++ tabbed fs) ≡ ds
-unfolding Digits
+pub run-read : (ds : List ℕ) (fs : List (List ℕ)) → AllDigits ds → run (ds ++ tabbed fs) ≡ ds
+unfolding AllDigits
 run-read [] fs h = run-tabbed fs
 run-read (d ∷ ds) fs h =
     let e = digit-value d (h .0) (h .1) in
     rw (run-digit d (ds ++ tabbed fs) (omega (arith, e, h .1)), run-read ds fs (h .2))
 
-pub numeral-digits : (ds : List ℕ) → Numeral ds → Digits ds
-unfolding Numeral Digits
+pub numeral-digits : (ds : List ℕ) → Numeral ds → AllDigits ds
+unfolding Numeral AllDigits
 numeral-digits [] h = absurd h
 numeral-digits (d ∷ ds) h = (omega arith, h .1, h .2)

@@ -108,4 +108,5 @@ module _ (line : List ℕ) (v i : ℕ) where
   unfolding runFrom valueAfter
   run-more e =
       let d = digit-of (getD line i 0) e in
-      rw (run-step line i, lt-leb 10 (digitValue (getD line i 0)) e, d .value, capped-after, add-one) (let n : i + suc (length (run (drop (suc i) line))) ≡ suc i + length (run (drop (suc i) line)) = omega arith in rw n)
+      let n : i + suc (length (run (drop (suc i) line))) ≡ suc i + length (run (drop (suc i) line)) = omega arith in
+      rw (run-step line i, lt-leb 10 (digitValue (getD line i 0)) e, d .value, capped-after, add-one) (rw n)

@@ -12,7 +12,7 @@ use Rattle.digits.specs.Decimal.{decimalDigit}
 use Rattle.lines.specs.declared.Field.{Field}
 use Rattle.lines.specs.declared.Field.the-variants as field
 use Rattle.lines.specs.declared.Numbered.the-variants as numbered
-use Rattle.lines.specs.Grammar.{tabbed, Bits, digits, Numerals}
+use Rattle.lines.specs.Grammar.{tabbed, Bits, written, RecordNumber}
 use Rattle.lines.specs.Field.{numberAt, digitAt, run, runAt, recordAt}
 use Rattle.lines.proofs.Digits.{digit-of}
 use Rattle.lines.proofs.Taken.{number-taken, digit-taken, record-taken, place}
@@ -36,7 +36,7 @@ Text line at next f = (fs : List (List ℕ)) → drop next line ≡ tabbed fs �
 
 pub record Number (line : List ℕ) (at next : ℕ) (x : Float) : Type 0 where
   pub number : Bits x
-  pub text : Text line at next (digits number)
+  pub text : Text line at next (written number)
 
 -- the bits that a number read has
 pub record Held (p : Field) (x : Float) : Type 0 where
@@ -65,7 +65,7 @@ digit-text line at next top d s n e fs r =
     drop-tab line at (t .tab) ∙ ap (λ (l : List ℕ). 9 ∷ l) (rw (v, m, r) at (drop-byte line (at + 1) (omega arith)))
 
 pub record Record (line : List ℕ) (at next v : ℕ) : Type 0 where
-  pub number : Numerals v
+  pub number : RecordNumber v
   pub text : Text line at next (number .digits)
 
 pub record-text : (line : List ℕ) (at next v : ℕ) → recordAt line at ≡ numbered.Of v next → Record line at next v

@@ -18,26 +18,26 @@ unfoldable pub tabbed : List (List ℕ) → List ℕ
 tabbed [] = []
 tabbed (f ∷ fs) = 9 ∷ (f ++ tabbed fs)
 
--- the bits that a number was written by; every pattern of a NaN gives the NaN
+-- the bits that a number is written by; every pattern of a NaN gives the NaN
 pub record Bits (x : Float) : Type 0 where
   pub bits : ℕ
   pub small : bits < 2 ^ 64
   pub number : x ≡ ofBits binary64 bits
 
-abbrev pub digits : {x : Float} → Bits x → List ℕ
-digits b = hex (b .bits)
+abbrev pub written : {x : Float} → Bits x → List ℕ
+written b = hex (b .bits)
 
 abbrev pub mark : Bool → List ℕ
 mark b = decimalDigit (cond b 1 0) ∷ []
 
 -- ---- "Records are numbered from 1, decimal without leading zeros"
-unfoldable pub Digits : List ℕ → Type 0
-Digits [] = Unit
-Digits (d ∷ ds) = (48 ≤ d) × (d ≤ 57) × Digits ds
+unfoldable pub AllDigits : List ℕ → Type 0
+AllDigits [] = Unit
+AllDigits (d ∷ ds) = (48 ≤ d) × (d ≤ 57) × AllDigits ds
 
 unfoldable pub Numeral : List ℕ → Type 0
 Numeral [] = ⊥
-Numeral (d ∷ ds) = (49 ≤ d) × (d ≤ 57) × Digits ds
+Numeral (d ∷ ds) = (49 ≤ d) × (d ≤ 57) × AllDigits ds
 
 -- digits that come after the value v
 unfoldable pub valueAfter : ℕ → List ℕ → ℕ
@@ -48,18 +48,18 @@ valueAfter v (d ∷ ds) = valueAfter (v * 10 + (d - 48)) ds
 abbrev pub capped : ℕ → ℕ
 capped n = min n 65
 
-pub record Numerals (n : ℕ) : Type 0 where
+pub record RecordNumber (n : ℕ) : Type 0 where
   pub digits : List ℕ
   pub numeral : Numeral digits
   pub number : n ≡ capped (valueAfter 0 digits)
 
--- ---- the three kinds of line
+-- ---- the three kinds of line, which begin with S, A and X
 pub record SaysSegment (line : List ℕ) (x1 y1 x2 y2 : Float) : Type 0 where
   pub a : Bits x1
   pub b : Bits y1
   pub c : Bits x2
   pub d : Bits y2
-  pub text : line ≡ 83 ∷ tabbed (digits a ∷ digits b ∷ digits c ∷ digits d ∷ [])
+  pub text : line ≡ 83 ∷ tabbed (written a ∷ written b ∷ written c ∷ written d ∷ [])
 
 pub record SaysBow (line : List ℕ) (e : Arc) : Type 0 where
   pub x : Bits (e .center .x)
@@ -69,14 +69,15 @@ pub record SaysBow (line : List ℕ) (e : Arc) : Type 0 where
   pub turn : Bits (e .rotation)
   pub start : Bits (e .start)
   pub end : Bits (e .end)
-  pub text : line ≡ 65 ∷ tabbed (digits x ∷ digits y ∷ digits r ∷ digits s ∷ digits turn ∷ digits start ∷ digits end ∷ mark (e .ccw) ∷ mark (e .closed) ∷ mark (e .«is_ellipse») ∷ [])
+  pub text : line ≡ 65 ∷ tabbed (written x ∷ written y ∷ written r ∷ written s ∷ written turn ∷ written start ∷ written end ∷ mark (e .ccw) ∷ mark (e .closed) ∷ mark (e .«is_ellipse») ∷ [])
 
 pub record SaysQuery (line : List ℕ) (a b depth : ℕ) : Type 0 where
-  pub first : Numerals a
-  pub second : Numerals b
+  pub first : RecordNumber a
+  pub second : RecordNumber b
   pub digit : depth < 10
   pub text : line ≡ 88 ∷ tabbed (first .digits ∷ second .digits ∷ (decimalDigit depth ∷ []) ∷ [])
 
+-- a malformed line is one that says nothing
 unfoldable pub Form : List ℕ → Line → Type 0
 Form line (Segment x1 y1 x2 y2) = SaysSegment line x1 y1 x2 y2
 Form line (Bow e) = SaysBow line e

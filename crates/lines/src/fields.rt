@@ -1,4 +1,4 @@
-// The fields of a line, each after a tab.
+// The fields of a line, each after a tab. A line has at most 256 bytes; the bounds on a place are wider, so that no sum of one can wrap.
 ghost use mathlib.Core.Path.{_≡_};
 ghost use Prim.Native.Nat.{_≤_};
 ghost use Rattle.lines.specs.Grammar.{capped};

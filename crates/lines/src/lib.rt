@@ -1,13 +1,13 @@
 // One line of input, read.
+mod bytes;
+mod fields;
+
 ghost use mathlib.Core.Path.{_≡_};
 ghost use Prim.Native.Nat.{_≤_};
 ghost use lib.ListN.{length};
 ghost use Rattle.lines.specs.Read.{segment, bow, query, readLine};
 use arc::Arc;
 use arc::Point;
-
-mod bytes;
-mod fields;
 
 // A line that is taken by its form. A record number above 64, however many digits it has, is held as 65.
 pub enum Line {
@@ -44,6 +44,7 @@ enum Marks {
     None,
 }
 
+// A letter and four numbers, each of 16 bytes after a tab.
 fn segment(line: &[u8]) -> Line
     ensures { λ r. ⌜ r ≡ segment (now (line .entry)) ⌝ }
 {
@@ -56,6 +57,7 @@ fn segment(line: &[u8]) -> Line
     Line::Malformed
 }
 
+// A letter, seven numbers, and three marks, each of one byte after a tab.
 fn bow(line: &[u8]) -> Line
     ensures { λ r. ⌜ r ≡ bow (now (line .entry)) ⌝ }
 {
@@ -84,6 +86,7 @@ fn bow(line: &[u8]) -> Line
     Line::Malformed
 }
 
+// Record numbers have any length, so each field tells where the next begins.
 fn query(line: &[u8]) -> Line
     requires { ⌜ length (now line) ≤ 256 ⌝ }
     ensures { λ r. ⌜ r ≡ query (now (line .entry)) ⌝ }
@@ -103,7 +106,7 @@ fn query(line: &[u8]) -> Line
     Line::Malformed
 }
 
-// One line without its newline.
+// One line without its newline. Its first byte is S, A or X.
 pub fn read(line: &[u8]) -> Line
     ensures { λ r. ⌜ r ≡ readLine (now (line .entry)) ⌝ }
 {

@@ -1,12 +1,15 @@
 -- `arcs_c::given::give` meets its contract. Assumes nothing.
 use mathlib.Core.Path.{refl}
+use lib.ListN.{length}
 use borrow.Author.Tests.{lt-ltb, le-ltb}
 use borrow.Author.Needs.{needs}
 use Rattle.arcs_c.proofs.given.give.Statement.{statement}
 use Rattle.arcs_c.proofs.given.give.Tie as tie
 
 returns : tie.Need-returns
-returns c = record { refusal = rw (lt-ltb _ _ (c .if1 .taken)) refl; values = refl }
+returns c =
+    let z = c .before .before .before .args in
+    record { refusal = rw (lt-ltb (length (z .out .now)) (length (z .numbers .now)) (c .if1 .taken)) refl; values = refl }
 
 place-requires : tie.Need-place-requires
 place-requires c κs = c .before .if1 .left

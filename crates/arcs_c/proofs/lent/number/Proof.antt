@@ -1,5 +1,5 @@
 -- `arcs_c::lent::number` meets its contract. Assumes nothing.
-use mathlib.Core.Path.{sym}
+use mathlib.Core.Path.{sym, _∙_}
 use lib.Ieee.{nan}
 use lib.ListN.{List·getD-eq-default}
 use Rattle.arcs_c.specs.Lent.{lentNumber}
@@ -23,7 +23,7 @@ not-a-number-requires c κs = tt
 
 returns-2 : tie.Need-returns-2
 unfolding lentNumber
-returns-2 c = rw (c .not-a-number .ensures) (sym (List·getD-eq-default (c .before .before .before .args .numbers .now) nan (c .before .if1 .left)))
+returns-2 c = c .not-a-number .ensures ∙ sym (List·getD-eq-default (c .before .before .before .args .numbers .now) nan (c .before .if1 .left))
 
 pub number-spec : {M : Type 1} → statement M
 number-spec =
