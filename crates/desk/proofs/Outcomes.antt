@@ -88,7 +88,8 @@ module _ (t : Table) (line : ℕ) (room : List Float) (out : List ℕ) where
     malformed-answered table told put e = answered-as Malformed table told put (e ∙ sym (written-none room))
 
 -- NO SECOND OUTCOME: the answer, the room and the buffer afterwards are fixed
-pub answer-unique : (a x y : After) → x ≡ a → y ≡ a → (x .answered ≡ y .answered) × (x .room ≡ y .room) × (x .out ≡ y .out)
-answer-unique a x y p q =
+pub answer-unique : (t : Table) (line : ℕ) (l : Line) (room : List Float) (out : List ℕ) (x y : After) → x ≡ answer t line l room out → y ≡ answer t line l room out
+    → (x .answered ≡ y .answered) × (x .room ≡ y .room) × (x .out ≡ y .out)
+answer-unique t line l room out x y p q =
     let same = p ∙ sym q in
     (ap (λ (z : After). z .answered) same, ap (λ (z : After). z .room) same, ap (λ (z : After). z .out) same)
