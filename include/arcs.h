@@ -136,8 +136,9 @@ uint32_t arcs_svg_arc_to_center(double x1, double y1, double x2, double y2, doub
 uint32_t arcs_circumscribed_arc(double x1, double y1, double x2, double y2, double x3, double y3, double *out, size_t out_len);
 /* The circle through s and e that has the direction t, of either sign, at s. out: 3 numbers, center x and y, radius. */
 uint32_t arcs_circle_tangent_through(double sx, double sy, double ex, double ey, double tx, double ty, double *out, size_t out_len);
-/* The arc of an ellipse from point 1 to point 2 with the directions (tx1, ty1) and (tx2, ty2) there; bulge is the
- * distance from the chord to the arc's middle, by half the chord. out: 8 numbers, center x and y, rx, ry, rotation, start, end, and ccw as 1 or 0. */
+/* The arc of an ellipse from point 1 to point 2 with the directions (tx1, ty1) and (tx2, ty2) there; the
+ * ellipse also passes bulge half chords from the middle of the chord, at a right angle to it, for a positive bulge on the
+ * side where the normals at the two points meet. out: 8 numbers, center x and y, rx, ry, rotation, start, end, and ccw as 1 or 0. */
 uint32_t arcs_fit_earc_tangent(double x1, double y1, double tx1, double ty1, double x2, double y2, double tx2, double ty2, double bulge,
                                double *out, size_t out_len);
 

@@ -47,7 +47,7 @@ fn conic_arc(p1: Point, t1: Point, p2: Point, q: Conic) -> Fit
     Fit::Is(ends::fitted_arc(p1, t1, p2, center, squares, rot))
 }
 
-// m_len is chord_len, so its test never succeeds. It stays, as every test of 001 has its own place.
+// m_len is the root of the same sum as chord_len. Its test stays, as every test of 001 has its own place.
 pub fn fit_earc_tangent(p1: Point, t1: Point, p2: Point, t2: Point, bulge: f64) -> Fit
     ensures { λ r. ⌜ r ≡ fitEarcTangent p1 t1 p2 t2 bulge ⌝ }
 {

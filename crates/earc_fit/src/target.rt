@@ -4,8 +4,9 @@ ghost use Rattle.earc_fit.specs.Target.{bulgeSign, targetMid};
 use crate::lines;
 use arc::Point;
 
-// The arc bulges away from the center. The center is guessed where the normals at the two ends meet. Where they are
-// parallel both sides give the same conic.
+// The center is guessed where the normals at the two ends meet; where they are parallel both sides give the same conic. 001 means
+// the arc to bulge away from the center, but its perpendicular points to m's other side, and so a positive bulge lies on the
+// center's side.
 pub fn bulge_sign(p1: Point, t1: Point, t2: Point, chord: Point, m: [f64; 3]) -> f64
     ensures { λ r. ⌜ r ≡ bulgeSign p1 t1 t2 chord m ⌝ }
 {
