@@ -1,5 +1,5 @@
 -- The remainder r = x % TAU of a finite x as a fraction, and n, its size at 2 ^ 61, cut. Assumes nothing.
-use mathlib.Core.Path.{_≡_, refl, sym, _∙_, subst}
+use mathlib.Core.Path.{_≡_, refl, sym, _∙_, ap, subst}
 use mathlib.Core.Bool.{Bool, true, false, _&&_, _||_, false≢true}
 use Prim.Native.Nat.{ℕ, _+_, _*_, _/_, _%_, _≤_, _<_, _^_}
 use native.Mathlib.Nat.{mul-comm, mul-pos, le-of-lt, le-of-eq, div-mul-le-self, lt-mul-div-succ, div-lt-iff-lt-mul, mod-lt}
@@ -11,7 +11,9 @@ use lib.Count.{trailingZeros}
 use lib.Ieee.{Float, nan, inf, fin, binary64, up, down, round, units, odd, size, span, climb, ofBits, ofFields, neg, mul, rem, lt, eq, le, toUnsigned, fits}
 use lib.Ieee.Fits.{down-pos, round-fits}
 use lib.Ieee.Order.{round-mono}
+use Rattle.laws.specs.Size.{abs}
 use Rattle.fixed.specs.Size.{sizeOf}
+use Rattle.fixed.proofs.Sizes.{size-positive}
 use Rattle.fixed.proofs.Signed.{signed, round-signed}
 use Rattle.fixed.proofs.Scaled.{fits-num, fits-den, MayCut, size-may-cut, size-whole}
 use Rattle.sine.specs.Angle.{tau}
@@ -108,3 +110,26 @@ pub units-signed : (s : Bool) (m : ℕ) (e : ℤ) → T (fits binary64 (fin fals
     angle.units (fin s m e) ≡ angle.units (fin false m e)
 unfolding fits
 units-signed s m e fit small = units-floor s m e fit small ∙ sym (units-floor false m e fit small)
+
+-- ---- without the sign
+pub size-abs : (x : Float) → sizeOf (abs x) ≡ abs x
+unfolding abs sizeOf lt ofBits ofFields odd trailingZeros
+size-abs nan = refl
+size-abs (inf s) = refl
+size-abs (fin s m e) = size-positive m e
+
+pub abs-fits : (x : Float) → T (fits binary64 x) → T (fits binary64 (abs x))
+unfolding abs fits
+abs-fits nan f = f
+abs-fits (inf s) f = f
+abs-fits (fin s m e) f = f
+
+pub units-abs : (x : Float) → angle.units (rem binary64 x tau) ≡ angle.units (rem binary64 (abs x) tau)
+unfolding rem abs signed
+units-abs nan = refl
+units-abs (inf s) = refl
+units-abs (fin s m e) =
+    let a = remainder false m e in
+    ap angle.units (rem-signed s m e ∙ ap (signed s) (a .is))
+    ∙ units-signed s (a .m) (a .e) (a .fit) (a .small)
+    ∙ ap angle.units (sym (a .is))

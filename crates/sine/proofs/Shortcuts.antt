@@ -1,26 +1,29 @@
 -- Two ways to the remainder without the division of floats: below TAU it is x, and below 8192 a remainder of whole numbers.
 -- Assumes nothing.
-use mathlib.Core.Path.{_≡_, sym, _∙_, ap, subst}
+use mathlib.Core.Path.{_≡_, refl, sym, _∙_, ap, subst}
 use mathlib.Core.Bool.{Bool, true, false, false≢true, true≢false}
 use Prim.Native.Nat.{ℕ, suc, _+_, _*_, _-_, _/_, _%_, _≤_, _<_, _^_}
-use native.Mathlib.Nat.{mul-assoc, mul-left-comm, mul-right-comm, mul-comm, mul-one, zero-mul, mul-pos, le-of-lt, mod-lt, mod-eq-of-lt, mul-div-cancel, div-add-mod', add-mul, le-of-mul-le-mul-right, lt-of-mul-lt-mul-right, lt-of-not-le, not-le-of-lt, lt-of-lt-of-le}
+use native.Mathlib.Nat.{mul-assoc, mul-left-comm, mul-right-comm, mul-comm, mul-one, zero-mul, mul-pos, le-of-lt, mod-lt, mod-eq-of-lt, mul-div-cancel, div-add-mod', add-mul, le-of-mul-le-mul-right, lt-of-mul-lt-mul-right, lt-of-not-le, not-le-of-lt, lt-of-lt-of-le, le-trans}
 use native.Mathlib.Omega.{arith}
 use lib.IntN.{ℤ, pos, negsuc}
 use lib.Dec.{T, lit≤, lit<}
 use lib.Pow.{pow-add, pow-mono, shl-lt}
 use lib.Count.{trailingZeros}
 use borrow.Author.Tests.{ltb-true, ltb-false}
-use lib.Ieee.{Float, nan, inf, fin, binary64, up, down, round, odd, ofBits, ofFields, neg, mul, rem, lt, eq, toUnsigned, fits}
+use lib.Ieee.{Float, nan, inf, fin, binary64, up, down, round, odd, ofBits, ofFields, neg, mul, rem, lt, eq, toBits, isNan, fits}
 use lib.Ieee.Fits.{down-pos}
 use lib.Ieee.Exact.{HasValue, round-exact}
 use lib.Ieee.Scale.{round-same}
 use lib.Ieee.Nearest.{div-same}
+use Rattle.laws.specs.Number.{number}
+use Rattle.laws.specs.Size.{abs}
 use Rattle.fixed.specs.Size.{sizeOf}
 use Rattle.fixed.proofs.Sizes.{by-sign}
 use Rattle.fixed.proofs.Scaled.{fits-num, fits-den, exact-times, MayCut, size-may-cut, size-whole}
-use Rattle.sine.specs.Angle.{tau}
+use Rattle.sine.specs.Angle.{tau, field, digitsOf}
 use Rattle.sine.specs.Angle as angle
-use Rattle.sine.proofs.Remainders.{Remainder, remainder, eq-self, units-floor, units-may-cut, units-nan}
+use Rattle.sine.proofs.Patterns.{field-most, field-least, by-bits}
+use Rattle.sine.proofs.Remainders.{Remainder, remainder, eq-self, units-floor, units-may-cut, units-nan, units-abs}
 
 -- the whole part of a remainder whose value a / c is known
 value-units : (s : Bool) (r : Float) → Remainder s r → (a c : ℕ) → 0 < c → HasValue r s a c → angle.units r ≡ a * 2 ^ 61 / c
@@ -98,16 +101,7 @@ module _ (s : Bool) (m : ℕ) (e : ℤ) (fit : T (fits binary64 (fin s m e))) (f
   hm : m < 2 ^ 53
   hm = fits-num s m e fit
 
-  hd : d ≤ 2 ^ 1074
-  hd = fits-den s m e fit
-
-  room : x * 2 ^ 50 < 2 ^ 64 * d
-  room = omega (arith, to)
-
-  fifty-may-cut : MayCut (mul binary64 (sizeOf (fin s m e)) (fin false 1 (pos 50)))
-  fifty-may-cut = size-may-cut 50 m e (lit≤ tt) hm hd (le-of-lt to) room s
-
-  fifty-units : angle.units (rem binary64 (fin s m e) tau) ≡ toUnsigned 64 (mul binary64 (sizeOf (fin s m e)) (fin false 1 (pos 50))) % 7074237752028440 * 2048
+  fifty-units : angle.units (rem binary64 (fin s m e) tau) ≡ (x * 2 ^ 50 / d) % 7074237752028440 * 2048
   unfolding rem tau ofBits ofFields odd trailingZeros
   fifty-units =
       let w = fifty m e hm from in
@@ -116,8 +110,7 @@ module _ (s : Bool) (m : ℕ) (e : ℤ) (fit : T (fits binary64 (fin s m e))) (f
       let n = x * 2 ^ 47 % (884279719003555 * d) in
       let q = k % 7074237752028440 in
       let c = d * 2 ^ 47 in
-      let f : toUnsigned 64 (mul binary64 (sizeOf (fin s m e)) (fin false 1 (pos 50))) ≡ k =
-      size-whole 50 m e (lit≤ tt) hm hd (le-of-lt to) room s ∙ rw k-is (mul-div-cancel k (down-pos e)) in
+      let f : x * 2 ^ 50 / d ≡ k = rw k-is (mul-div-cancel k (down-pos e)) in
       let g : q * d ≡ n * 8 = same-remainder (x * 2 ^ 47) d k (down-pos e) (omega (arith, k-is)) in
       let p : round binary64 s n c ≡ round binary64 s q (2 ^ 50) =
       round-same binary64 s n c q (2 ^ 50) (mul-pos (down-pos e) (lit< tt)) (lit< tt) (omega (arith, g, mul-assoc q d (2 ^ 47))) in
@@ -160,30 +153,51 @@ module _ (x : Float) (fit : T (fits binary64 x)) (below : lt (sizeOf x) tau ≡ 
       go (inf false) f t = absurd (false≢true t)
       go (fin s m e) f t = below-tau s m e f (size-below s m e 884279719003555 (negsuc 46) t (lit< tt))
 
--- from TAU on and below 8192
-module _ (x : Float) (fit : T (fits binary64 x)) (from : lt (sizeOf x) tau ≡ false) (to : lt (sizeOf x) (fin false 1 (pos 13)) ≡ true) where
-  pub long-may-cut : MayCut (mul binary64 (sizeOf x) (fin false 1 (pos 50)))
-  unfolding tau sizeOf lt neg ofBits ofFields odd trailingZeros
-  long-may-cut = go x fit from to
-    where
-      go : (x : Float) → T (fits binary64 x) → lt (sizeOf x) tau ≡ false → lt (sizeOf x) (fin false 1 (pos 13)) ≡ true → MayCut (mul binary64 (sizeOf x) (fin false 1 (pos 50)))
-      go nan f t u = absurd (false≢true u)
-      go (inf true) f t u = absurd (false≢true u)
-      go (inf false) f t u = absurd (false≢true u)
-      go (fin s m e) f t u =
-          fifty-may-cut s m e f (size-from s m e 884279719003555 (negsuc 46) t (lit< tt)) (omega (arith, size-below s m e 1 (pos 13) u (lit< tt)))
+-- ---- by the pattern of the size
+pub number-abs : (x : Float) → T (number x) → T (number (abs x))
+unfolding abs isNan
+number-abs nan t = t
+number-abs (inf s) t = t
+number-abs (fin s m e) t = t
 
-  pub long-units : angle.units (rem binary64 x tau) ≡ toUnsigned 64 (mul binary64 (sizeOf x) (fin false 1 (pos 50))) % 7074237752028440 * 2048
-  unfolding tau sizeOf lt neg ofBits ofFields odd trailingZeros
-  long-units = go x fit from to
+module _ (x : Float) (fit : T (fits binary64 (abs x))) where
+  abbrev bits : ℕ
+  bits = toBits binary64 (abs x)
+
+  -- below TAU
+  pub turn-by-bits : lt (sizeOf (abs x)) tau ≡ true → 1014 ≤ field bits → (field bits < 1014 + 12) × (digitsOf bits * 2 ^ (field bits - 1014) ≡ angle.units (rem binary64 x tau))
+  unfolding abs tau sizeOf lt neg ofBits ofFields odd trailingZeros
+  turn-by-bits t l = go x fit t l
     where
-      go : (x : Float) → T (fits binary64 x) → lt (sizeOf x) tau ≡ false → lt (sizeOf x) (fin false 1 (pos 13)) ≡ true →
-          angle.units (rem binary64 x tau) ≡ toUnsigned 64 (mul binary64 (sizeOf x) (fin false 1 (pos 50))) % 7074237752028440 * 2048
+      go : (x : Float) → T (fits binary64 (abs x)) → lt (sizeOf (abs x)) tau ≡ true → 1014 ≤ field (toBits binary64 (abs x)) →
+          (field (toBits binary64 (abs x)) < 1014 + 12) × (digitsOf (toBits binary64 (abs x)) * 2 ^ (field (toBits binary64 (abs x)) - 1014) ≡ angle.units (rem binary64 x tau))
+      go nan f t l = absurd (false≢true t)
+      go (inf s) f t l = absurd (false≢true t)
+      go (fin s m e) f t l =
+          let h : m * up e * 2 ^ 47 < 884279719003555 * down e = size-below false m e 884279719003555 (negsuc 46) t (lit< tt) in
+          let k = digitsOf (toBits binary64 (fin false m e)) * 2 ^ (field (toBits binary64 (fin false m e)) - 1014) in
+          let v = by-bits m e f 61 1014 refl (lit≤ tt) l in
+          let w : m * up e * 2 ^ 61 / down e ≡ k = ap (λ (n : ℕ). n / down e) v ∙ mul-div-cancel k (down-pos e) in
+          (field-most m e f 3 (le-trans (lit≤ tt) l) (omega (arith, h)), sym (units-abs (fin s m e) ∙ below-tau false m e f h ∙ units-floor false m e f (le-of-lt h) ∙ w))
+
+  -- from TAU on and below 8192
+  pub long-by-bits : lt (sizeOf (abs x)) tau ≡ false → lt (sizeOf (abs x)) (fin false 1 (pos 13)) ≡ true →
+      (1025 ≤ field bits) × (field bits < 1025 + 12) × (digitsOf bits * 2 ^ (field bits - 1025) % 7074237752028440 * 2048 ≡ angle.units (rem binary64 x tau))
+  unfolding abs tau sizeOf lt neg ofBits ofFields odd trailingZeros
+  long-by-bits t u = go x fit t u
+    where
+      go : (x : Float) → T (fits binary64 (abs x)) → lt (sizeOf (abs x)) tau ≡ false → lt (sizeOf (abs x)) (fin false 1 (pos 13)) ≡ true →
+          (1025 ≤ field (toBits binary64 (abs x))) × (field (toBits binary64 (abs x)) < 1025 + 12)
+          × (digitsOf (toBits binary64 (abs x)) * 2 ^ (field (toBits binary64 (abs x)) - 1025) % 7074237752028440 * 2048 ≡ angle.units (rem binary64 x tau))
       go nan f t u = absurd (false≢true u)
-      go (inf true) f t u = absurd (false≢true u)
-      go (inf false) f t u = absurd (false≢true u)
+      go (inf s) f t u = absurd (false≢true u)
       go (fin s m e) f t u =
-          fifty-units s m e f (size-from s m e 884279719003555 (negsuc 46) t (lit< tt)) (omega (arith, size-below s m e 1 (pos 13) u (lit< tt)))
+          let from : 884279719003555 * down e ≤ m * up e * 2 ^ 47 = size-from false m e 884279719003555 (negsuc 46) t (lit< tt) in
+          let to : m * up e < 8192 * down e = omega (arith, size-below false m e 1 (pos 13) u (lit< tt)) in
+          let l : 1025 ≤ field (toBits binary64 (fin false m e)) = field-least m e f (omega (arith, from)) in
+          let k = digitsOf (toBits binary64 (fin false m e)) * 2 ^ (field (toBits binary64 (fin false m e)) - 1025) in
+          let w : m * up e * 2 ^ 50 / down e ≡ k = ap (λ (n : ℕ). n / down e) (by-bits m e f 50 1025 refl (lit≤ tt) l) ∙ mul-div-cancel k (down-pos e) in
+          (l, le-trans (field-most m e f 13 (le-trans (lit≤ tt) l) (omega (arith, to))) (lit≤ tt), sym (units-abs (fin s m e) ∙ fifty-units false m e f from to ∙ ap (λ (n : ℕ). n % 7074237752028440 * 2048) w))
 
 -- beyond: a remainder that is a number
 pub far-may-cut : (x : Float) → eq (rem binary64 x tau) (rem binary64 x tau) ≡ true → MayCut (mul binary64 (sizeOf (rem binary64 x tau)) (fin false 1 (pos 61)))

@@ -1,6 +1,6 @@
 -- How large each number of the rule can be, so that nothing wraps. Assumes nothing.
 use mathlib.Core.Path.{_≡_, refl}
-use mathlib.Core.Bool.{Bool, true, false, cond, not, _&&_}
+use mathlib.Core.Bool.{Bool, true, false, cond, not, _&&_, _||_, true≢false}
 use mathlib.Core.List.{List, [], _∷_}
 use Prim.Native.Nat.{ℕ, zero, suc, _+_, _*_, _-_, _/_, _≤_, _<_, _^_}
 use native.Mathlib.Nat.{mul-le-mul}
@@ -13,7 +13,7 @@ use Rattle.fixed.proofs.Products.{high-le}
 use Rattle.sine_table.specs.Table.{sines, cosines}
 use Rattle.sine.specs.Node.{node, under, apart, rest}
 use Rattle.sine.specs.Short.{bend, lack, shortSine, shortVersine}
-use Rattle.sine.specs.Rule.{turned, sineUnits, cosineUnits, places}
+use Rattle.sine.specs.Rule.{turned, sineUnits, cosineUnits, ranged}
 
 pub rest-le : (n : ℕ) → rest n ≤ 2 ^ 61
 unfolding rest apart node
@@ -105,13 +105,18 @@ cosine-units-lt n =
     let z = square-le g (rest-le n) in
     turned-lt _ _ _ _ (not (under n)) (node-cosine-le (node n)) (node-sine-le (node n)) (versine-le (high g g) z) (sine-le g (high g g) (rest-le n))
 
-pub places-range : (t : ℕ) → (2 ^ 54 ≤ places t) × (places t ≤ 2 ^ 55)
-unfolding places
-places-range t = low (ltb k (2 ^ 54)) refl
-  where
-    k : ℕ
-    k = (t + 2 ^ 7) / 2 ^ 8
+pub or-left : (a b : Bool) → (a || b) ≡ false → a ≡ false
+or-left true b e = e
+or-left false b e = refl
 
+pub or-right : (a b : Bool) → (a || b) ≡ false → b ≡ false
+or-right true b e = absurd (true≢false e)
+or-right false b e = e
+
+pub ranged-range : (k : ℕ) → (2 ^ 54 ≤ ranged k) × (ranged k ≤ 2 ^ 55)
+unfolding ranged
+ranged-range k = low (ltb k (2 ^ 54)) refl
+  where
     high' : (b : Bool) → ltb (2 ^ 55) k ≡ b → 2 ^ 54 ≤ k → (2 ^ 54 ≤ cond b (2 ^ 55) k) × (cond b (2 ^ 55) k ≤ 2 ^ 55)
     high' true e h = (omega arith, omega arith)
     high' false e h = (h, ltb-false (2 ^ 55) k e)
@@ -119,3 +124,12 @@ places-range t = low (ltb k (2 ^ 54)) refl
     low : (b : Bool) → ltb k (2 ^ 54) ≡ b → (2 ^ 54 ≤ cond b (2 ^ 54) (cond (ltb (2 ^ 55) k) (2 ^ 55) k)) × (cond b (2 ^ 54) (cond (ltb (2 ^ 55) k) (2 ^ 55) k) ≤ 2 ^ 55)
     low true e = (omega arith, omega arith)
     low false e = high' (ltb (2 ^ 55) k) refl (ltb-false k (2 ^ 54) e)
+
+-- a number that is in the range stays as it is
+module _ (k : ℕ) (inside : (ltb k (2 ^ 54) || ltb (2 ^ 55) k) ≡ false) where
+  pub inside-range : (2 ^ 54 ≤ k) × (k ≤ 2 ^ 55)
+  inside-range = (ltb-false k (2 ^ 54) (or-left (ltb k (2 ^ 54)) (ltb (2 ^ 55) k) inside), ltb-false (2 ^ 55) k (or-right (ltb k (2 ^ 54)) (ltb (2 ^ 55) k) inside))
+
+  pub inside-ranged : ranged k ≡ k
+  unfolding ranged
+  inside-ranged = rw (or-left (ltb k (2 ^ 54)) (ltb (2 ^ 55) k) inside, or-right (ltb k (2 ^ 54)) (ltb (2 ^ 55) k) inside) refl

@@ -33,17 +33,25 @@ cosineUnits n =
     let z = high g g in
     turned (getD cosines (node n) 0) (getD sines (node n) 0) (shortVersine z) (shortSine g z) (not (under n))
 
--- the same at 2 ^ 53, to the nearest, a half upwards, and not outside of 2 to 4
+-- the same at 2 ^ 53, to the nearest, a half upwards
+unfoldable pub rounded : ℕ → ℕ
+rounded t = (t + 2 ^ 7) / 2 ^ 8
+
+-- and not outside of 2 to 4
+unfoldable pub ranged : ℕ → ℕ
+ranged k = cond (ltb k (2 ^ 54)) (2 ^ 54) (cond (ltb (2 ^ 55) k) (2 ^ 55) k)
+
 unfoldable pub places : ℕ → ℕ
-places t =
-    let k = (t + 2 ^ 7) / 2 ^ 8 in
-    cond (ltb k (2 ^ 54)) (2 ^ 54) (cond (ltb (2 ^ 55) k) (2 ^ 55) k)
+places t = ranged (rounded t)
 
 -- less 3, as a float, and negated where `flip`
-unfoldable pub float : ℕ → Bool → Float
-float t flip =
-    mul binary64 (ofInt binary64 (subℕ (places t) (3 * 2 ^ 53)))
+unfoldable pub floated : ℕ → Bool → Float
+floated k flip =
+    mul binary64 (ofInt binary64 (subℕ k (3 * 2 ^ 53)))
     (cond flip (neg (ofBits binary64 0x3ca0000000000000)) (ofBits binary64 0x3ca0000000000000))
+
+unfoldable pub float : ℕ → Bool → Float
+float t flip = floated (places t) flip
 
 -- THE SINE AND THE COSINE of x. Where the size of the remainder is below 2 ^ -26 the sine is the remainder, and below 2 ^ -27 the cosine is 1.
 unfoldable pub sine : Float → Float

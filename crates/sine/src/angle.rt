@@ -1,22 +1,38 @@
 // From the argument to the nearest node and the rest.
 ghost use mathlib.Core.Path.{_≡_};
-ghost use Prim.Native.Nat.{_<_, _*_, _^_};
+ghost use Prim.Native.Nat.{_≤_, _<_, _+_, _-_, _*_, _^_};
 ghost use lib.Ieee.{binary64, rem};
-ghost use Rattle.sine.specs.Angle.{tau, units};
+ghost use Rattle.sine.specs.Angle.{tau, units, field, digitsOf};
 ghost use Rattle.sine.specs.Split.{Parts};
 use crate::steps;
 use scalar::TAU;
 
-// The size of x % TAU at 2^61. Below TAU the remainder is x; below 8192 it is taken in whole numbers of 2^-50, which x and TAU are.
+// The digits of a number's pattern, the leading one among them, moved up by its exponent's field less `low`.
+fn moved(bits: u64, low: u64) -> u64
+    requires { ⌜ (low ≤ field bits) × (field bits < low + 12) ⌝ }
+    ensures { λ r. ⌜ r ≡ digitsOf bits * 2 ^ (field bits - low) ⌝ }
+{
+    (bits % 0x10_0000_0000_0000 + 0x10_0000_0000_0000) << (bits / 0x10_0000_0000_0000 - low)
+}
+
+// The size of x % TAU at 2^61. Below TAU the remainder is x, and from 2^-9 on all its digits stand above the unit then; below 8192 it is taken in whole numbers of 2^-50, which x and
+// TAU are. The NaN is tested first: a compiler that knows that x is none has one instruction for its size.
 pub fn angle(x: f64) -> u64
     ensures { λ n. ⌜ (n ≡ units (rem binary64 x tau)) × (n < 203 * 2 ^ 56) ⌝ }
 {
-    let a = fixed::size(x);
+    if x != x {
+        return 0;
+    }
+    let a = scalar::abs(x);
+    let bits = f64::to_bits(a);
     if a < TAU {
+        if 0x3f60_0000_0000_0000 <= bits {
+            return moved(bits, 1014);
+        }
         return std::num::truncating_f64_to_u64(a * 2305843009213693952.0);
     }
     if a < 8192.0 {
-        return std::num::truncating_f64_to_u64(a * 1125899906842624.0) % 7074237752028440 * 2048;
+        return moved(bits, 1025) % 7074237752028440 * 2048;
     }
     let r = x % TAU;
     if r == r {

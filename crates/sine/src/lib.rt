@@ -3,10 +3,11 @@ mod angle;
 mod steps;
 
 ghost use mathlib.Core.Path.{_≡_};
-ghost use Prim.Native.Nat.{_<_, _^_};
+ghost use mathlib.Core.Bool.{false};
+ghost use Prim.Native.Nat.{_<_, _*_, _^_};
 ghost use lib.Ieee.{binary64, rem};
 ghost use Rattle.sine.specs.Angle.{tau, units};
-ghost use Rattle.sine.specs.Rule.{sineUnits, cosineUnits, sine, cosine};
+ghost use Rattle.sine.specs.Rule.{sineUnits, cosineUnits, rounded, ranged, floated, float, sine, cosine};
 use scalar::TAU;
 
 // The sizes at 2^61 below which the sine is the remainder, 2^-26, and the cosine is 1, 2^-27.
@@ -20,79 +21,88 @@ pub struct SinCos {
     pub cos: f64,
 }
 
-// The angle of x, and 3 more than its sine and its cosine, at 2^61.
+// 3 more than the sine and the cosine of an angle, at 2^53.
 struct Units {
-    angle: u64,
     sine: u64,
     cosine: u64,
 }
 
-// One reduction and one reading of the table for both.
-fn turned_units(x: f64) -> Units
-    ensures { λ t. ⌜ (t .angle ≡ units (rem binary64 x tau)) × (t .sine ≡ sineUnits (t .angle)) × (t .cosine ≡ cosineUnits (t .angle)) ⌝ }
+// One reading of the table for both.
+fn rounded(n: u64) -> Units
+    requires { ⌜ n < 203 * 2 ^ 56 ⌝ }
+    ensures { λ r. ⌜ (r .sine ≡ rounded (sineUnits n)) × (r .cosine ≡ rounded (cosineUnits n)) ⌝ }
 {
-    let n = angle::angle(x);
     let p = angle::split(n);
+    let t = steps::turned(p.node_sine, p.node_cosine, p.versine, p.sine, p.under);
+    let u = steps::turned(p.node_cosine, p.node_sine, p.versine, p.sine, !p.under);
     Units {
-        angle: n,
-        sine: steps::turned(p.node_sine, p.node_cosine, p.versine, p.sine, p.under),
-        cosine: steps::turned(p.node_cosine, p.node_sine, p.versine, p.sine, !p.under),
+        sine: steps::rounded(t),
+        cosine: steps::rounded(u),
     }
 }
 
-// Below 2^-26 the sine is the remainder, and below 2^-27 the cosine is 1.
-fn near_zero(x: f64, t: Units) -> SinCos
-    requires { ⌜ (t .angle ≡ units (rem binary64 x tau)) × (t .angle < 2 ^ 35) × (t .cosine ≡ cosineUnits (t .angle)) ⌝ }
-    ensures { λ r. ⌜ (r .sin ≡ sine x) × (r .cos ≡ cosine x) ⌝ }
+// Hardly ever is one of the two out of range. One test of both is cheaper than bringing each into range, which the processor would have to wait for.
+fn floats(r: Units, flip: bool) -> SinCos
+    ensures { λ y. ⌜ (y .sin ≡ floated (ranged (r .sine)) flip) × (y .cos ≡ floated (ranged (r .cosine)) false) ⌝ }
 {
-    let r = scalar::with_one_nan(x % TAU);
-    if COSINE_SMALL <= t.angle {
+    if steps::outside(r.sine) | steps::outside(r.cosine) {
         return SinCos {
-            sin: r,
-            cos: steps::float(t.cosine, false),
+            sin: steps::float(steps::ranged(r.sine), flip),
+            cos: steps::float(steps::ranged(r.cosine), false),
         };
     }
     SinCos {
-        sin: r,
-        cos: fixed::pick(r == r, 1.0, r),
+        sin: steps::float(r.sine, flip),
+        cos: steps::float(r.cosine, false),
     }
 }
 
-// Both. The turn is left as whole numbers and made floats here, so that a caller has them at once.
-pub fn sin_cos(x: f64) -> SinCos
-    ensures { λ r. ⌜ (r .sin ≡ sine x) × (r .cos ≡ cosine x) ⌝ }
+// Both of the angle n, the sine negated where `flip`.
+fn turned(n: u64, flip: bool) -> SinCos
+    requires { ⌜ n < 203 * 2 ^ 56 ⌝ }
+    ensures { λ y. ⌜ (y .sin ≡ float (sineUnits n) flip) × (y .cos ≡ float (cosineUnits n) false) ⌝ }
 {
-    let t = turned_units(x);
-    if SINE_SMALL <= t.angle {
-        return SinCos {
-            sin: steps::float(t.sine, x < 0.0),
-            cos: steps::float(t.cosine, false),
-        };
-    }
-    near_zero(x, t)
+    floats(rounded(n), flip)
 }
 
-// The sine of x. It splits the angle itself: with one caller alone `split` is no function of its own, and the compiler makes a jump of 102 ways of its table.
-pub fn sin(x: f64) -> f64
-    ensures { λ r. ⌜ r ≡ sine x ⌝ }
+fn remainder(x: f64) -> f64
+    ensures { λ r. ⌜ r ≡ rem binary64 x tau ⌝ }
 {
-    let n = angle::angle(x);
-    let p = angle::split(n);
-    if SINE_SMALL <= n {
-        let t = steps::turned(p.node_sine, p.node_cosine, p.versine, p.sine, p.under);
-        return steps::float(t, x < 0.0);
-    }
     scalar::with_one_nan(x % TAU)
 }
 
-// The cosine of x. A second caller of `turned_units`, for the same reason.
+// The sine and the cosine of x. Below 2^-26 the sine is the remainder, and below 2^-27 the cosine is 1.
+pub fn sin_cos(x: f64) -> SinCos
+    ensures { λ y. ⌜ (y .sin ≡ sine x) × (y .cos ≡ cosine x) ⌝ }
+{
+    let n = angle::angle(x);
+    if n < COSINE_SMALL {
+        let r = remainder(x);
+        return SinCos {
+            sin: r,
+            cos: fixed::pick(r == r, 1.0, r),
+        };
+    }
+    let both = turned(n, x < 0.0);
+    if n < SINE_SMALL {
+        return SinCos {
+            sin: remainder(x),
+            cos: both.cos,
+        };
+    }
+    both
+}
+
+pub fn sin(x: f64) -> f64
+    ensures { λ r. ⌜ r ≡ sine x ⌝ }
+{
+    let both = sin_cos(x);
+    both.sin
+}
+
 pub fn cos(x: f64) -> f64
     ensures { λ r. ⌜ r ≡ cosine x ⌝ }
 {
-    let t = turned_units(x);
-    if COSINE_SMALL <= t.angle {
-        return steps::float(t.cosine, false);
-    }
-    let both = near_zero(x, t);
+    let both = sin_cos(x);
     both.cos
 }

@@ -1,9 +1,11 @@
 // The steps of the rule on whole numbers.
 ghost use mathlib.Core.Path.{_≡_};
+ghost use mathlib.Core.Bool.{_||_};
 ghost use Prim.Native.Nat.{_≤_, _<_, _+_, _*_, _^_};
+ghost use lib.Dec.{ltb};
 ghost use Rattle.sine.specs.Node.{apart};
 ghost use Rattle.sine.specs.Short.{bend, lack, shortSine, shortVersine};
-ghost use Rattle.sine.specs.Rule.{turned, places, float};
+ghost use Rattle.sine.specs.Rule.{turned, rounded, ranged, floated};
 
 // How far the angle is from a node, at 2^66.
 pub fn apart(n: u64, c: u64) -> u64
@@ -61,12 +63,25 @@ pub fn turned(b: u64, c: u64, v: u64, s: u64, down: bool) -> u64
     }
 }
 
-// t to 53 places, in the range of the answers: 3 more than the answer, at 2^53.
-fn places(t: u64) -> u64
+// t to 53 places: 3 more than the answer, at 2^53.
+pub fn rounded(t: u64) -> u64
     requires { ⌜ t < 2 ^ 63 + 2 ^ 62 ⌝ }
-    ensures { λ r. ⌜ r ≡ places t ⌝ }
+    ensures { λ r. ⌜ r ≡ rounded t ⌝ }
 {
-    let k = (t + 128) / 256;
+    (t + 128) / 256
+}
+
+// Whether k is outside of the range of the answers.
+pub fn outside(k: u64) -> bool
+    ensures { λ b. ⌜ b ≡ (ltb k (2 ^ 54) || ltb (2 ^ 55) k) ⌝ }
+{
+    (k < 18014398509481984) | (36028797018963968 < k)
+}
+
+// k in the range of the answers.
+pub fn ranged(k: u64) -> u64
+    ensures { λ r. ⌜ r ≡ ranged k ⌝ }
+{
     if k < 18014398509481984 {
         return 18014398509481984;
     }
@@ -76,11 +91,11 @@ fn places(t: u64) -> u64
     k
 }
 
-// The float that t stands for, negated where `flip`.
-pub fn float(t: u64, flip: bool) -> f64
-    requires { ⌜ t < 2 ^ 63 + 2 ^ 62 ⌝ }
-    ensures { λ r. ⌜ r ≡ float t flip ⌝ }
+// The float that k stands for, negated where `flip`.
+pub fn float(k: u64, flip: bool) -> f64
+    requires { ⌜ (2 ^ 54 ≤ k) × (k ≤ 2 ^ 55) ⌝ }
+    ensures { λ r. ⌜ r ≡ floated k flip ⌝ }
 {
-    let k = (places(t) as i64) - 27021597764222976;
-    (k as f64) * fixed::pick(flip, -1.1102230246251565e-16, 1.1102230246251565e-16)
+    let y = (((k as i64) - 27021597764222976) as f64) * 1.1102230246251565e-16;
+    fixed::pick(flip, -y, y)
 }

@@ -15,16 +15,16 @@ use lib.Ieee.Fits.{down-pos}
 use lib.Ieee.Exact.{HasValue, round-exact}
 use lib.Ieee.Back.{round-whole}
 use lib.Ieee.Scale.{round-same}
-use Rattle.sine.specs.Rule.{places, float}
-use Rattle.sine.proofs.Sizes.{places-range}
+use Rattle.sine.specs.Rule.{rounded, places, floated, float}
+use Rattle.sine.proofs.Sizes.{ranged-range}
 
 -- the size of k / 2 ^ 53 - 3, at 2 ^ 53; it is below 0 where k is below 3 * 2 ^ 53
 unfoldable pub magnitude : ℕ → ℕ
 magnitude k = cond (ltb k (3 * 2 ^ 53)) (3 * 2 ^ 53 - k) (k - 3 * 2 ^ 53)
 
 pub magnitude-le : (t : ℕ) → magnitude (places t) ≤ 2 ^ 53
-unfolding magnitude
-magnitude-le t = go (ltb (places t) (3 * 2 ^ 53)) (places-range t)
+unfolding magnitude places
+magnitude-le t = go (ltb (places t) (3 * 2 ^ 53)) (ranged-range (rounded t))
   where
     go : (b : Bool) → (2 ^ 54 ≤ places t) × (places t ≤ 2 ^ 55) → cond b (3 * 2 ^ 53 - places t) (places t - 3 * 2 ^ 53) ≤ 2 ^ 53
     go true r = omega arith
@@ -68,6 +68,6 @@ difference-value k h = go (ltb k (3 * 2 ^ 53)) refl h
 
 -- THE ANSWER is (k - 3 * 2 ^ 53) / 2 ^ 53, where k is `places t`, negated where `flip`
 pub float-value : (t : ℕ) (flip : Bool) → HasValue (float t flip) (unlike (ltb (places t) (3 * 2 ^ 53)) flip) (magnitude (places t)) (2 ^ 53)
-unfolding float ofBits ofFields odd trailingZeros neg
+unfolding float floated ofBits ofFields odd trailingZeros neg
 float-value t true = times-unit _ (ltb (places t) (3 * 2 ^ 53)) true (magnitude (places t)) (magnitude-le t) (difference-value (places t) (magnitude-le t))
 float-value t false = times-unit _ (ltb (places t) (3 * 2 ^ 53)) false (magnitude (places t)) (magnitude-le t) (difference-value (places t) (magnitude-le t))

@@ -10,7 +10,7 @@ use borrow.Author.Tests.{ltb-true, ltb-false}
 use lib.Ieee.{Float, nan, inf, fin, up, down, unlike}
 use lib.Ieee.Exact.{HasValue}
 use lib.Ieee.Fits.{down-pos}
-use Rattle.sine.specs.Rule.{places}
+use Rattle.sine.specs.Rule.{rounded, ranged, places}
 use Rattle.sine_bound.specs.Within.{Within}
 use Rattle.sine_bound.proofs.Close.{Close}
 use Rattle.sine_bound.proofs.Peak.{InRange}
@@ -18,7 +18,7 @@ use Rattle.sine_bound.proofs.Answer.{magnitude}
 
 -- to 53 places, and not outside of 2 to 4
 places-near : (t : ℕ) → InRange t → (256 * places t ≤ t + 17008) × (t ≤ 256 * places t + 17008)
-unfolding places InRange
+unfolding places ranged rounded InRange
 places-near t r = low (ltb k (2 ^ 54)) refl
   where
     k : ℕ

@@ -1,15 +1,18 @@
 -- `sine::angle::angle` meets its contract: each way gives the whole part of the remainder's size. Assumes nothing.
-use mathlib.Core.Path.{_≡_, refl, sym, subst}
+use mathlib.Core.Path.{_≡_, refl, sym, _∙_, subst}
 use mathlib.Core.Bool.{true}
-use Prim.Native.Nat.{ℕ, _*_, _<_, _^_}
+use Prim.Native.Nat.{ℕ, _*_, _≤_, _<_, _^_}
+use native.Mathlib.Omega.{arith}
 use borrow.Author.Needs.{needs}
 use lib.Dec.{T}
 use lib.Count.{trailingZeros}
-use lib.Ieee.{Float, binary64, fits, rem, lt, ofBits, ofFields, odd}
+use lib.Ieee.{Float, binary64, fits, rem, lt, ofBits, ofFields, odd, toBits}
+use Rattle.laws.specs.Size.{abs}
+use Rattle.laws.proofs.Tests.{number-test, nan-test}
 use Rattle.fixed.specs.Size.{sizeOf}
-use Rattle.sine.specs.Angle.{tau, units}
-use Rattle.sine.proofs.Remainders.{units-lt}
-use Rattle.sine.proofs.Shortcuts.{turn-may-cut, turn-units, long-may-cut, long-units, far-may-cut, far-none}
+use Rattle.sine.specs.Angle.{tau, units, field}
+use Rattle.sine.proofs.Remainders.{units-lt, units-nan, size-abs, abs-fits, units-abs}
+use Rattle.sine.proofs.Shortcuts.{turn-may-cut, turn-units, number-abs, turn-by-bits, long-by-bits, far-may-cut, far-none}
 use Rattle.sine.proofs.angle.angle.Statement.{statement}
 use Rattle.sine.proofs.angle.angle.Tie as tie
 
@@ -17,77 +20,122 @@ use Rattle.sine.proofs.angle.angle.Tie as tie
 bounded : (x : Float) (n : ℕ) → n ≡ units (rem binary64 x tau) → (n ≡ units (rem binary64 x tau)) × (n < 203 * 2 ^ 56)
 bounded x n e = (e, rw e (units-lt x))
 
-size-requires : tie.Need-size-requires
-size-requires c κs = search needs
+-- what owning an `f64` tells: the format holds it, and its size too
+held : (c : tie.Start) → T (fits binary64 (abs (c .args .x)))
+held c = abs-fits (c .args .x) (subst T (sym (c .good .0 .1)) tt)
+
+field-from : (b : ℕ) → 0x3f60_0000_0000_0000 ≤ b → 1014 ≤ field b
+field-from b h = omega arith
+
+returns : tie.Need-returns
+unfolding tau rem
+returns c =
+    let x = c .before .args .x in
+    bounded x 0 (rw (nan-test x (c .if1 .taken)) (sym units-nan))
+
+abs-requires : tie.Need-abs-requires
+abs-requires c κs = search needs
+
+float-to-bits-bits : tie.Need-float-to-bits-bits
+float-to-bits-bits c =
+    let x = c .before .before .args .x in
+    rw (c .abs .ensures) (number-abs x (number-test x (c .before .if1 .left)))
+
+moved-requires : tie.Need-moved-requires
+unfolding tau
+moved-requires c κs =
+    let start = c .before .before .before .before in
+    let x = start .args .x in
+    let e = c .before .before .abs .ensures in
+    let t : lt (sizeOf (abs x)) tau ≡ true = rw (e ∙ sym (size-abs x)) at (c .before .if2 .taken) in
+    let l : 1014 ≤ field (toBits binary64 (abs x)) = field-from (toBits binary64 (abs x)) (rw e at (c .if3 .taken)) in
+    rw e (l, turn-by-bits x (held start) t l .0)
+
+returns-2 : tie.Need-returns-2
+unfolding tau
+returns-2 c =
+    let start = c .before .before .before .before .before in
+    let x = start .args .x in
+    let e = c .before .before .before .abs .ensures in
+    let t : lt (sizeOf (abs x)) tau ≡ true = rw (e ∙ sym (size-abs x)) at (c .before .before .if2 .taken) in
+    let l : 1014 ≤ field (toBits binary64 (abs x)) = field-from (toBits binary64 (abs x)) (rw e at (c .before .if3 .taken)) in
+    bounded x _ (rw (c .moved .ensures, e) (turn-by-bits x (held start) t l .1))
 
 truncating-f64-to-u64-requires : tie.Need-truncating-f64-to-u64-requires
 unfolding tau ofBits ofFields odd trailingZeros
 truncating-f64-to-u64-requires c κs =
-    let x = c .before .before .args .x in
-    let f : T (fits binary64 x) = subst T (sym (c .before .before .good .0 .1)) tt in
-    let e = c .before .size .ensures in
-    rw e (turn-may-cut x f (rw e at (c .if1 .taken)))
-
-returns : tie.Need-returns
-unfolding tau units
-returns c =
-    let x = c .before .before .before .args .x in
-    let f : T (fits binary64 x) = subst T (sym (c .before .before .before .good .0 .1)) tt in
-    let e = c .before .before .size .ensures in
-    let t : lt (sizeOf x) tau ≡ true = rw e at (c .before .if1 .taken) in
-    bounded x _ (rw (c .truncating-f64-to-u64 .ensures, e) (sym (turn-units x f t)))
-
-truncating-f64-to-u64-requires-2 : tie.Need-truncating-f64-to-u64-requires-2
-unfolding tau ofBits ofFields odd trailingZeros
-truncating-f64-to-u64-requires-2 c κs =
-    let x = c .before .before .before .args .x in
-    let f : T (fits binary64 x) = subst T (sym (c .before .before .before .good .0 .1)) tt in
-    let e = c .before .before .size .ensures in
-    rw e (long-may-cut x f (rw e at (c .before .if1 .left)) (rw e at (c .if2 .taken)))
-
-mul-result : tie.Need-mul-result
-mul-result c = search needs
-
-returns-2 : tie.Need-returns-2
-unfolding tau ofBits ofFields odd trailingZeros
-returns-2 c =
-    let x = c .before .before .before .before .args .x in
-    let f : T (fits binary64 x) = subst T (sym (c .before .before .before .before .good .0 .1)) tt in
-    let e = c .before .before .before .size .ensures in
-    bounded x _ (rw (c .truncating-f64-to-u642 .ensures, e) (sym (long-units x f (rw e at (c .before .before .if1 .left)) (rw e at (c .before .if2 .taken)))))
-
-size-requires-2 : tie.Need-size-requires-2
-size-requires-2 c κs = search needs
-
-truncating-f64-to-u64-requires-3 : tie.Need-truncating-f64-to-u64-requires-3
-unfolding tau ofBits ofFields odd trailingZeros
-truncating-f64-to-u64-requires-3 c κs =
-    let x = c .before .before .before .before .before .args .x in
-    rw (c .size2 .ensures) (far-may-cut x (c .before .if3 .taken))
+    let start = c .before .before .before .before in
+    let x = start .args .x in
+    let e = c .before .before .abs .ensures ∙ sym (size-abs x) in
+    rw e (turn-may-cut (abs x) (held start) (rw e at (c .before .if2 .taken)))
 
 returns-3 : tie.Need-returns-3
 unfolding tau units
 returns-3 c =
-    let x = c .before .before .before .before .before .before .args .x in
-    bounded x _ (rw (c .truncating-f64-to-u643 .ensures, c .before .size2 .ensures) refl)
+    let start = c .before .before .before .before .before in
+    let x = start .args .x in
+    let e = c .before .before .before .abs .ensures ∙ sym (size-abs x) in
+    let t : lt (sizeOf (abs x)) tau ≡ true = rw e at (c .before .before .if2 .taken) in
+    bounded x _ (rw (c .truncating-f64-to-u64 .ensures, e) (sym (units-abs x ∙ turn-units (abs x) (held start) t)))
+
+moved-requires-2 : tie.Need-moved-requires-2
+unfolding tau ofBits ofFields odd trailingZeros
+moved-requires-2 c κs =
+    let start = c .before .before .before .before in
+    let x = start .args .x in
+    let e = c .before .before .abs .ensures in
+    let s = e ∙ sym (size-abs x) in
+    let f = long-by-bits x (held start) (rw s at (c .before .if2 .left)) (rw s at (c .if4 .taken)) in
+    rw e (f .0, f .1)
+
+mul-result : tie.Need-mul-result
+mul-result c = search needs
 
 returns-4 : tie.Need-returns-4
-unfolding tau
+unfolding tau ofBits ofFields odd trailingZeros
 returns-4 c =
-    let x = c .before .before .before .before .args .x in
-    bounded x 0 (sym (far-none x (c .if3 .left)))
+    let start = c .before .before .before .before .before in
+    let x = start .args .x in
+    let e = c .before .before .before .abs .ensures in
+    let s = e ∙ sym (size-abs x) in
+    bounded x _ (rw (c .moved2 .ensures, e) (long-by-bits x (held start) (rw s at (c .before .before .if2 .left)) (rw s at (c .before .if4 .taken)) .2))
+
+size-requires : tie.Need-size-requires
+size-requires c κs = search needs
+
+truncating-f64-to-u64-requires-2 : tie.Need-truncating-f64-to-u64-requires-2
+unfolding tau ofBits ofFields odd trailingZeros
+truncating-f64-to-u64-requires-2 c κs =
+    let x = c .before .before .before .before .before .before .args .x in
+    rw (c .size .ensures) (far-may-cut x (c .before .if5 .taken))
+
+returns-5 : tie.Need-returns-5
+unfolding tau units
+returns-5 c =
+    let x = c .before .before .before .before .before .before .before .args .x in
+    bounded x _ (rw (c .truncating-f64-to-u642 .ensures, c .before .size .ensures) refl)
+
+returns-6 : tie.Need-returns-6
+unfolding tau
+returns-6 c =
+    let x = c .before .before .before .before .before .args .x in
+    bounded x 0 (sym (far-none x (c .if5 .left)))
 
 pub angle-spec : {M : Type 1} → statement M
 angle-spec =
     tie.close
     (tie.spec
-    size-requires
-    truncating-f64-to-u64-requires
     returns
-    truncating-f64-to-u64-requires-2
-    mul-result
+    abs-requires
+    float-to-bits-bits
+    moved-requires
     returns-2
-    size-requires-2
-    truncating-f64-to-u64-requires-3
+    truncating-f64-to-u64-requires
     returns-3
-    returns-4)
+    moved-requires-2
+    mul-result
+    returns-4
+    size-requires
+    truncating-f64-to-u64-requires-2
+    returns-5
+    returns-6)

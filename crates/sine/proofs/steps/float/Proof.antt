@@ -11,8 +11,8 @@ use lib.Ieee.{binary64, inFloat}
 use mir.Syntax.{w64}
 use mir.Val.{SFits, toZ, ofZ}
 use mir.Facts.{toZ-ofZ}
-use Rattle.sine.specs.Rule.{float, places}
-use Rattle.sine.proofs.Sizes.{places-range}
+use Rattle.sine.specs.Rule.{floated}
+use Rattle.sine.proofs.Signs.{floated-flip}
 use Rattle.sine.proofs.steps.float.Statement.{statement}
 use Rattle.sine.proofs.steps.float.Tie as tie
 
@@ -43,37 +43,30 @@ module _ (k : ℕ) (low : 2 ^ 54 ≤ k) (high : k ≤ 2 ^ 55) where
   stored-is = ap (λ (z : ℤ). toZ w64 (ofZ w64 z)) difference-is ∙ toZ-ofZ difference-fits
 
 -- ---- and the needs
-places-requires : tie.Need-places-requires
-places-requires c κs = search needs
+cast-y : tie.Need-cast-y
+cast-y c = search needs
 
-cast-k : tie.Need-cast-k
-cast-k c = record { sfits = omega (arith, places-range (c .before .args .t), c .places .ensures) }
+sub-y : tie.Need-sub-y
+sub-y c =
+    let k = c .args .k in
+    let r = c .pre in
+    subst (λ (z : ℤ). SFits w64 z) (sym (difference-is k (r .0) (r .1))) (difference-fits k (r .0) (r .1))
 
-sub-k : tie.Need-sub-k
-sub-k c =
-    let k = c .places .result in
-    let r = places-range (c .before .args .t) in
-    let e = c .places .ensures in
-    subst (λ (z : ℤ). SFits w64 z) (sym (difference-is k (omega arith) (omega arith))) (difference-fits k (omega arith) (omega arith))
-
-int-to-float-result : tie.Need-int-to-float-result
-int-to-float-result c =
-    let k = c .before .places .result in
-    let r = places-range (c .before .before .args .t) in
-    let e = c .before .places .ensures in
-    subst (λ (z : ℤ). T (inFloat binary64 z)) (sym (stored-is k (omega arith) (omega arith))) (difference-exact k (omega arith) (omega arith))
+int-to-float-y : tie.Need-int-to-float-y
+int-to-float-y c =
+    let k = c .before .args .k in
+    let r = c .before .pre in
+    subst (λ (z : ℤ). T (inFloat binary64 z)) (sym (stored-is k (r .0) (r .1))) (difference-exact k (r .0) (r .1))
 
 pick-requires : tie.Need-pick-requires
 pick-requires c κs = search needs
 
 returns : tie.Need-returns
-unfolding float
+unfolding floated
 returns c =
-    let k = c .before .before .places .result in
-    let r = places-range (c .before .before .before .args .t) in
-    let e = c .before .before .places .ensures in
-    rw (stored-is k (omega arith) (omega arith), e, c .pick .ensures) refl
+    let k = c .before .before .args .k in
+    let r = c .before .before .pre in
+    c .pick .ensures ∙ rw (stored-is k (r .0) (r .1)) (floated-flip k (c .before .before .args .flip))
 
 pub float-spec : {M : Type 1} → statement M
-float-spec =
-    tie.close (tie.spec places-requires cast-k sub-k int-to-float-result pick-requires returns)
+float-spec = tie.close (tie.spec cast-y sub-y int-to-float-y pick-requires returns)

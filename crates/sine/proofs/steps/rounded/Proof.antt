@@ -1,0 +1,16 @@
+-- `sine::steps::rounded` meets its contract. Assumes nothing.
+use mathlib.Core.Path.{refl}
+use borrow.Author.Needs.{needs}
+use Rattle.sine.specs.Rule.{rounded}
+use Rattle.sine.proofs.steps.rounded.Statement.{statement}
+use Rattle.sine.proofs.steps.rounded.Tie as tie
+
+add-result : tie.Need-add-result
+add-result c = search needs
+
+returns : tie.Need-returns
+unfolding rounded
+returns c = refl
+
+pub rounded-spec : {M : Type 1} → statement M
+rounded-spec = tie.close (tie.spec add-result returns)
