@@ -14,7 +14,7 @@
  *   4  a lent room is too short for what is to be written
  *   5  the construction is degenerate
  *   6  the angle is outside a partial arc's span
- * Where more than one would do, the first in the order 1, 2, 3, 5, 6, 4 is returned.
+ * Where more than one would do, the first is returned.
  *
  * ARCS. An arc is seven numbers, in this order: center x, center y, radius, radius_b, rotation, start, end; and marks.
  * Angles are in radians. All seven numbers are tested whatever the marks, and some calls read radius_b and rotation of a

@@ -109,6 +109,21 @@ mod tests {
         }
     }
 
+    /// 1, 2 and 3 come before 4, and 4 before 5 and 6.
+    #[test]
+    fn the_order_of_refusals() {
+        let partial = [0.0, 0.0, 1.0, 1.0, 0.0, 0.0, 1.0];
+        let mut out = [MARK; 6];
+        let at = out.as_mut_ptr();
+        unsafe {
+            let in_line = |x3, len| arcs_circumscribed_arc(0.0, 0.0, 1.0, 0.0, x3, 0.0, at, len);
+            assert_eq!([in_line(2.0, 6), in_line(2.0, 5), in_line(f64::NAN, 5), in_line(2e6, 5)], [5, 4, 1, 2]);
+            let outside = |theta, len| arcs_arc_param_in_span(partial.as_ptr(), 7, 1, theta, at, len);
+            assert_eq!([outside(3.0, 1), outside(3.0, 0), outside(f64::NAN, 0), outside(1025.0, 0)], [6, 4, 1, 2]);
+        }
+        assert_eq!(out, [MARK; 6]);
+    }
+
     /// Refused with 4 where a count has no place, with nothing written.
     fn counts<const N: usize>(call: impl Fn(*mut f64, usize, *mut u64, usize) -> u32) {
         for len in 0..N {

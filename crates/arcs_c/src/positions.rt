@@ -1,10 +1,8 @@
 // Points, tangents and lines: the library's answer goes to `out`, the refusal's number is given back.
+ghost use Rattle.points.specs.Told.{ellipsePointTold, ellipseTangentTold, arcPointAtTold, arcTangentAtTold, arcStartPosTold, arcEndPosTold, pointToSegmentDistTold, projectOntoSegmentTold, lineLineIntersectionTold};
 ghost use Rattle.queries.specs.Curves.{at};
-ghost use Rattle.arcs_c.specs.Lent.{lentArc};
-ghost use Rattle.arcs_c.specs.Exported.{NumbersOut};
-ghost use Rattle.arcs_c.specs.Told.{ellipsePointTold, ellipseTangentTold, arcPointAtTold, arcTangentAtTold, arcStartPosTold, arcEndPosTold, pointToSegmentDistTold, projectOntoSegmentTold, lineLineIntersectionTold};
-use crate::given;
-use crate::lent;
+ghost use Rattle.lent.specs.Lent.{lentArc};
+ghost use Rattle.lent.specs.Exported.{NumbersOut};
 use arc::Point;
 
 #[no_mangle]
@@ -17,45 +15,45 @@ pub extern "C" fn arcs_ellipse_point(
     t: f64,
     out: &mut [f64],
 ) -> u32
-    ensures { λ r. ⌜ NumbersOut (ellipsePointTold (at cx cy) rx ry rot t) (now (out .entry)) r (now (out .exit)) ⌝ }
+    ensures { λ r. ⌜ NumbersOut 2 (ellipsePointTold (at cx cy) rx ry rot t) (now (out .entry)) r (now (out .exit)) ⌝ }
 {
     let told = arcs::ellipse_point(Point { x: cx, y: cy }, rx, ry, rot, t);
-    given::give_pair(told, out)
+    lent::give_pair(told, out)
 }
 
 #[no_mangle]
 pub extern "C" fn arcs_ellipse_tangent(rx: f64, ry: f64, rot: f64, t: f64, out: &mut [f64]) -> u32
-    ensures { λ r. ⌜ NumbersOut (ellipseTangentTold rx ry rot t) (now (out .entry)) r (now (out .exit)) ⌝ }
+    ensures { λ r. ⌜ NumbersOut 2 (ellipseTangentTold rx ry rot t) (now (out .entry)) r (now (out .exit)) ⌝ }
 {
-    given::give_pair(arcs::ellipse_tangent(rx, ry, rot, t), out)
+    lent::give_pair(arcs::ellipse_tangent(rx, ry, rot, t), out)
 }
 
 #[no_mangle]
 pub extern "C" fn arcs_arc_point_at(a: &[f64], a_marks: u32, t: f64, out: &mut [f64]) -> u32
-    ensures { λ r. ⌜ NumbersOut (arcPointAtTold (lentArc (now (a .entry)) «a_marks») t) (now (out .entry)) r (now (out .exit)) ⌝ }
+    ensures { λ r. ⌜ NumbersOut 2 (arcPointAtTold (lentArc (now (a .entry)) «a_marks») t) (now (out .entry)) r (now (out .exit)) ⌝ }
 {
-    given::give_pair(arcs::arc_point_at(lent::arc(a, a_marks), t), out)
+    lent::give_pair(arcs::arc_point_at(lent::arc(a, a_marks), t), out)
 }
 
 #[no_mangle]
 pub extern "C" fn arcs_arc_tangent_at(a: &[f64], a_marks: u32, t: f64, out: &mut [f64]) -> u32
-    ensures { λ r. ⌜ NumbersOut (arcTangentAtTold (lentArc (now (a .entry)) «a_marks») t) (now (out .entry)) r (now (out .exit)) ⌝ }
+    ensures { λ r. ⌜ NumbersOut 2 (arcTangentAtTold (lentArc (now (a .entry)) «a_marks») t) (now (out .entry)) r (now (out .exit)) ⌝ }
 {
-    given::give_pair(arcs::arc_tangent_at(lent::arc(a, a_marks), t), out)
+    lent::give_pair(arcs::arc_tangent_at(lent::arc(a, a_marks), t), out)
 }
 
 #[no_mangle]
 pub extern "C" fn arcs_arc_start_pos(a: &[f64], a_marks: u32, out: &mut [f64]) -> u32
-    ensures { λ r. ⌜ NumbersOut (arcStartPosTold (lentArc (now (a .entry)) «a_marks»)) (now (out .entry)) r (now (out .exit)) ⌝ }
+    ensures { λ r. ⌜ NumbersOut 2 (arcStartPosTold (lentArc (now (a .entry)) «a_marks»)) (now (out .entry)) r (now (out .exit)) ⌝ }
 {
-    given::give_pair(arcs::arc_start_pos(lent::arc(a, a_marks)), out)
+    lent::give_pair(arcs::arc_start_pos(lent::arc(a, a_marks)), out)
 }
 
 #[no_mangle]
 pub extern "C" fn arcs_arc_end_pos(a: &[f64], a_marks: u32, out: &mut [f64]) -> u32
-    ensures { λ r. ⌜ NumbersOut (arcEndPosTold (lentArc (now (a .entry)) «a_marks»)) (now (out .entry)) r (now (out .exit)) ⌝ }
+    ensures { λ r. ⌜ NumbersOut 2 (arcEndPosTold (lentArc (now (a .entry)) «a_marks»)) (now (out .entry)) r (now (out .exit)) ⌝ }
 {
-    given::give_pair(arcs::arc_end_pos(lent::arc(a, a_marks)), out)
+    lent::give_pair(arcs::arc_end_pos(lent::arc(a, a_marks)), out)
 }
 
 #[no_mangle]
@@ -68,14 +66,14 @@ pub extern "C" fn arcs_point_to_segment_dist(
     by: f64,
     out: &mut [f64],
 ) -> u32
-    ensures { λ r. ⌜ NumbersOut (pointToSegmentDistTold (at px py) (at ax ay) (at bx by)) (now (out .entry)) r (now (out .exit)) ⌝ }
+    ensures { λ r. ⌜ NumbersOut 1 (pointToSegmentDistTold (at px py) (at ax ay) (at bx by)) (now (out .entry)) r (now (out .exit)) ⌝ }
 {
     let told = arcs::point_to_segment_dist(
         Point { x: px, y: py },
         Point { x: ax, y: ay },
         Point { x: bx, y: by },
     );
-    given::give_number(told, out)
+    lent::give_number(told, out)
 }
 
 #[no_mangle]
@@ -88,14 +86,14 @@ pub extern "C" fn arcs_project_onto_segment(
     by: f64,
     out: &mut [f64],
 ) -> u32
-    ensures { λ r. ⌜ NumbersOut (projectOntoSegmentTold (at px py) (at ax ay) (at bx by)) (now (out .entry)) r (now (out .exit)) ⌝ }
+    ensures { λ r. ⌜ NumbersOut 2 (projectOntoSegmentTold (at px py) (at ax ay) (at bx by)) (now (out .entry)) r (now (out .exit)) ⌝ }
 {
     let told = arcs::project_onto_segment(
         Point { x: px, y: py },
         Point { x: ax, y: ay },
         Point { x: bx, y: by },
     );
-    given::give_pair(told, out)
+    lent::give_pair(told, out)
 }
 
 #[no_mangle]
@@ -110,7 +108,7 @@ pub extern "C" fn arcs_line_line_intersection(
     y4: f64,
     out: &mut [f64],
 ) -> u32
-    ensures { λ r. ⌜ NumbersOut (lineLineIntersectionTold (at x1 y1) (at x2 y2) (at x3 y3) (at x4 y4)) (now (out .entry)) r (now (out .exit)) ⌝ }
+    ensures { λ r. ⌜ NumbersOut 2 (lineLineIntersectionTold (at x1 y1) (at x2 y2) (at x3 y3) (at x4 y4)) (now (out .entry)) r (now (out .exit)) ⌝ }
 {
     let told = arcs::line_line_intersection(
         Point { x: x1, y: y1 },
@@ -118,5 +116,5 @@ pub extern "C" fn arcs_line_line_intersection(
         Point { x: x3, y: y3 },
         Point { x: x4, y: y4 },
     );
-    given::give_pair(told, out)
+    lent::give_pair(told, out)
 }

@@ -1,20 +1,14 @@
 // Points, tangents, distances and lines (parts 2 and 4).
 ghost use mathlib.Core.Path.{_≡_};
-ghost use mathlib.Core.List.{[], _∷_, _++_};
-ghost use Rattle.arc.specs.Ellipse.{ellipsePoint, ellipseTangent};
-ghost use Rattle.arc.specs.ArcPoint.{arcPointAt, arcTangentAt, arcStartPos, arcEndPos};
-ghost use Rattle.line.specs.Project.{pointToSegmentDist, projectOntoSegment};
-ghost use Rattle.line.specs.Lines.{lineLineIntersection};
-ghost use Rattle.checks.specs.Given.{coordinate, angle, point, arcNumbers};
-ghost use Rattle.checks.specs.Refusal.{refusalOf};
-ghost use Rattle.checks.specs.Answer.{answered, numberTold, pairTold};
+ghost use Rattle.checks.specs.Answer.{numberTold, pairTold};
+ghost use Rattle.points.specs.Told.{ellipsePointTold, ellipseTangentTold, arcPointAtTold, arcTangentAtTold, arcStartPosTold, arcEndPosTold, pointToSegmentDistTold, projectOntoSegmentTold, lineLineIntersectionTold};
 use arc::Arc;
 use arc::Point;
 use checks::Number;
 use checks::Pair;
 
 pub fn ellipse_point(center: Point, rx: f64, ry: f64, rot: f64, t: f64) -> Pair
-    ensures { λ r. ⌜ pairTold r ≡ answered (refusalOf (point center ++ coordinate rx ∷ coordinate ry ∷ angle rot ∷ angle t ∷ []) 0 0 0) (ellipsePoint center rx ry rot t .x ∷ ellipsePoint center rx ry rot t .y ∷ []) [] ⌝ }
+    ensures { λ r. ⌜ pairTold r ≡ ellipsePointTold center rx ry rot t ⌝ }
 {
     let radii = checks::coordinate(
         checks::coordinate(checks::point(checks::none(), center), rx),
@@ -28,7 +22,7 @@ pub fn ellipse_point(center: Point, rx: f64, ry: f64, rot: f64, t: f64) -> Pair
 }
 
 pub fn ellipse_tangent(rx: f64, ry: f64, rot: f64, t: f64) -> Pair
-    ensures { λ r. ⌜ pairTold r ≡ answered (refusalOf (coordinate rx ∷ coordinate ry ∷ angle rot ∷ angle t ∷ []) 0 0 0) (ellipseTangent rx ry rot t .x ∷ ellipseTangent rx ry rot t .y ∷ []) [] ⌝ }
+    ensures { λ r. ⌜ pairTold r ≡ ellipseTangentTold rx ry rot t ⌝ }
 {
     let radii = checks::coordinate(checks::coordinate(checks::none(), rx), ry);
     let f = checks::angle(checks::angle(radii, rot), t);
@@ -39,21 +33,21 @@ pub fn ellipse_tangent(rx: f64, ry: f64, rot: f64, t: f64) -> Pair
 }
 
 pub fn arc_point_at(a: Arc, t: f64) -> Pair
-    ensures { λ r. ⌜ pairTold r ≡ answered (refusalOf (arcNumbers a ++ angle t ∷ []) 0 0 0) (arcPointAt a t .x ∷ arcPointAt a t .y ∷ []) [] ⌝ }
+    ensures { λ r. ⌜ pairTold r ≡ arcPointAtTold a t ⌝ }
 {
     let f = checks::angle(checks::arc(checks::none(), a), t);
     checks::as_pair(checks::refusal(f, 0, 0, 0), arc::arc_point_at(a, t))
 }
 
 pub fn arc_tangent_at(a: Arc, t: f64) -> Pair
-    ensures { λ r. ⌜ pairTold r ≡ answered (refusalOf (arcNumbers a ++ angle t ∷ []) 0 0 0) (arcTangentAt a t .x ∷ arcTangentAt a t .y ∷ []) [] ⌝ }
+    ensures { λ r. ⌜ pairTold r ≡ arcTangentAtTold a t ⌝ }
 {
     let f = checks::angle(checks::arc(checks::none(), a), t);
     checks::as_pair(checks::refusal(f, 0, 0, 0), arc::arc_tangent_at(a, t))
 }
 
 pub fn arc_start_pos(a: Arc) -> Pair
-    ensures { λ r. ⌜ pairTold r ≡ answered (refusalOf (arcNumbers a) 0 0 0) (arcStartPos a .x ∷ arcStartPos a .y ∷ []) [] ⌝ }
+    ensures { λ r. ⌜ pairTold r ≡ arcStartPosTold a ⌝ }
 {
     checks::as_pair(
         checks::refusal(checks::arc(checks::none(), a), 0, 0, 0),
@@ -62,7 +56,7 @@ pub fn arc_start_pos(a: Arc) -> Pair
 }
 
 pub fn arc_end_pos(a: Arc) -> Pair
-    ensures { λ r. ⌜ pairTold r ≡ answered (refusalOf (arcNumbers a) 0 0 0) (arcEndPos a .x ∷ arcEndPos a .y ∷ []) [] ⌝ }
+    ensures { λ r. ⌜ pairTold r ≡ arcEndPosTold a ⌝ }
 {
     checks::as_pair(
         checks::refusal(checks::arc(checks::none(), a), 0, 0, 0),
@@ -71,7 +65,7 @@ pub fn arc_end_pos(a: Arc) -> Pair
 }
 
 pub fn point_to_segment_dist(p: Point, a: Point, b: Point) -> Number
-    ensures { λ r. ⌜ numberTold r ≡ answered (refusalOf (point p ++ point a ++ point b) 0 0 0) (pointToSegmentDist p a b ∷ []) [] ⌝ }
+    ensures { λ r. ⌜ numberTold r ≡ pointToSegmentDistTold p a b ⌝ }
 {
     let f = checks::point(checks::point(checks::point(checks::none(), p), a), b);
     checks::as_number(
@@ -81,7 +75,7 @@ pub fn point_to_segment_dist(p: Point, a: Point, b: Point) -> Number
 }
 
 pub fn project_onto_segment(p: Point, a: Point, b: Point) -> Pair
-    ensures { λ r. ⌜ pairTold r ≡ answered (refusalOf (point p ++ point a ++ point b) 0 0 0) (projectOntoSegment p a b .x ∷ projectOntoSegment p a b .y ∷ []) [] ⌝ }
+    ensures { λ r. ⌜ pairTold r ≡ projectOntoSegmentTold p a b ⌝ }
 {
     let f = checks::point(checks::point(checks::point(checks::none(), p), a), b);
     checks::as_pair(
@@ -91,7 +85,7 @@ pub fn project_onto_segment(p: Point, a: Point, b: Point) -> Pair
 }
 
 pub fn line_line_intersection(p1: Point, p2: Point, p3: Point, p4: Point) -> Pair
-    ensures { λ r. ⌜ pairTold r ≡ answered (refusalOf (point p1 ++ point p2 ++ point p3 ++ point p4) 0 0 0) (lineLineIntersection p1 p2 p3 p4 .x ∷ lineLineIntersection p1 p2 p3 p4 .y ∷ []) [] ⌝ }
+    ensures { λ r. ⌜ pairTold r ≡ lineLineIntersectionTold p1 p2 p3 p4 ⌝ }
 {
     let f = checks::point(
         checks::point(checks::point(checks::point(checks::none(), p1), p2), p3),

@@ -1,12 +1,9 @@
 // Spans and parameters (part 3).
 ghost use mathlib.Core.Path.{_≡_};
-ghost use mathlib.Core.List.{[], _∷_, _++_};
-ghost use Rattle.arc.specs.Span.{normTau, arcParamInSpan};
-ghost use Rattle.arc.specs.Frame.{arcRadii, arcThetaOfPos, arcParamAtPoint};
-ghost use Rattle.checks.specs.Given.{angle, point, arcNumbers};
-ghost use Rattle.checks.specs.Refusal.{refusalOf, orLater};
-ghost use Rattle.checks.specs.Answer.{answered, numberTold, pairTold};
+ghost use Rattle.checks.specs.Refusal.{orLater};
+ghost use Rattle.checks.specs.Answer.{numberTold, pairTold};
 ghost use Rattle.points.specs.InSpan.{spanRefusal, spanNumber};
+ghost use Rattle.points.specs.Told.{normTauTold, arcParamInSpanTold, arcRadiiTold, arcThetaOfPosTold, arcParamAtPointTold};
 use arc::Arc;
 use arc::InSpan;
 use arc::Point;
@@ -14,7 +11,7 @@ use checks::Number;
 use checks::Pair;
 
 pub fn norm_tau(v: f64) -> Number
-    ensures { λ r. ⌜ numberTold r ≡ answered (refusalOf (angle v ∷ []) 0 0 0) (normTau v ∷ []) [] ⌝ }
+    ensures { λ r. ⌜ numberTold r ≡ normTauTold v ⌝ }
 {
     checks::as_number(
         checks::refusal(checks::angle(checks::none(), v), 0, 0, 0),
@@ -52,7 +49,7 @@ fn span_number(s: InSpan) -> f64
 }
 
 pub fn arc_param_in_span(a: Arc, theta: f64) -> Number
-    ensures { λ r. ⌜ numberTold r ≡ answered (orLater (refusalOf (arcNumbers a ++ angle theta ∷ []) 0 0 0) (spanRefusal (arcParamInSpan a theta))) (spanNumber (arcParamInSpan a theta) ∷ []) [] ⌝ }
+    ensures { λ r. ⌜ numberTold r ≡ arcParamInSpanTold a theta ⌝ }
 {
     let f = checks::angle(checks::arc(checks::none(), a), theta);
     let s = arc::arc_param_in_span(a, theta);
@@ -60,7 +57,7 @@ pub fn arc_param_in_span(a: Arc, theta: f64) -> Number
 }
 
 pub fn arc_radii(a: Arc) -> Pair
-    ensures { λ r. ⌜ pairTold r ≡ answered (refusalOf (arcNumbers a) 0 0 0) (arcRadii a .a ∷ arcRadii a .b ∷ []) [] ⌝ }
+    ensures { λ r. ⌜ pairTold r ≡ arcRadiiTold a ⌝ }
 {
     let r = arc::arc_radii(a);
     checks::as_pair(
@@ -70,14 +67,14 @@ pub fn arc_radii(a: Arc) -> Pair
 }
 
 pub fn arc_theta_of_pos(a: Arc, p: Point) -> Number
-    ensures { λ r. ⌜ numberTold r ≡ answered (refusalOf (arcNumbers a ++ point p) 0 0 0) (arcThetaOfPos a p ∷ []) [] ⌝ }
+    ensures { λ r. ⌜ numberTold r ≡ arcThetaOfPosTold a p ⌝ }
 {
     let f = checks::point(checks::arc(checks::none(), a), p);
     checks::as_number(checks::refusal(f, 0, 0, 0), arc::arc_theta_of_pos(a, p))
 }
 
 pub fn arc_param_at_point(a: Arc, p: Point) -> Number
-    ensures { λ r. ⌜ numberTold r ≡ answered (refusalOf (arcNumbers a ++ point p) 0 0 0) (arcParamAtPoint a p ∷ []) [] ⌝ }
+    ensures { λ r. ⌜ numberTold r ≡ arcParamAtPointTold a p ⌝ }
 {
     let f = checks::point(checks::arc(checks::none(), a), p);
     checks::as_number(checks::refusal(f, 0, 0, 0), arc::arc_param_at_point(a, p))

@@ -5,6 +5,7 @@ use mathlib.Core.Path.{_≡_}
 use mathlib.Core.Bool.{cond}
 use mathlib.Core.List.{List, []}
 use lib.Dec.{eqb}
+use lib.ListN.{length}
 use lib.Ieee.{Float}
 use Rattle.hits.specs.declared.CurveHit.{CurveHit}
 use Rattle.hits.specs.Hit.{written}
@@ -14,3 +15,12 @@ use Rattle.checks.specs.Answer.{Answer, answered}
 pub record Crossed (n : ℕ) (hs : List CurveHit) (counts : List ℕ) (before : List Float) (told : Answer) (after : List Float) : Type 0 where
   pub answer : told ≡ answered n [] counts
   pub room : after ≡ cond (eqb n 0) (written hs before) before
+
+-- what a call is asked: its refusal by the length of the room, the hits and the counts
+pub record Asked : Type 0 where
+  pub refusal : ℕ → ℕ
+  pub hits : List CurveHit
+  pub counts : List ℕ
+
+abbrev pub Crosses : Asked → List Float → Answer → List Float → Type 0
+Crosses q before told after = Crossed (q .refusal (length before)) (q .hits) (q .counts) before told after

@@ -3,3 +3,4 @@ pub mod Crossed
 pub mod Need
 pub mod Pairs
 pub mod Curves
+pub mod Asked

@@ -1,18 +1,14 @@
 // Crossings (parts 4 to 6): the hits go to the lent room.
 ghost use mathlib.Core.Path.{_≡_};
-ghost use mathlib.Core.List.{[], _∷_, _++_};
 ghost use Prim.Native.Nat.{_≤_, _/_};
 ghost use lib.ListN.{length};
 ghost use Rattle.hits.specs.Hit.{hitSize, written, hitPart};
-ghost use Rattle.hits.specs.Listed.{listed, one};
-ghost use Rattle.line.specs.Segments.{intersectSegments};
-ghost use Rattle.crossing.specs.SegmentArc.{intersectSegmentArc};
+ghost use Rattle.hits.specs.Listed.{listed};
 ghost use Rattle.hunt.specs.Outcome.{tally};
-ghost use Rattle.checks.specs.Given.{point, arcNumbers};
-ghost use Rattle.checks.specs.Refusal.{refusalOf};
-ghost use Rattle.checks.specs.Answer.{foundTold, huntedTold, tallyCounts};
-ghost use Rattle.queries.specs.Crossed.{Crossed};
-ghost use Rattle.queries.specs.Need.{segmentsNeed, closedNeed, pairNeed};
+ghost use Rattle.checks.specs.Answer.{foundTold, huntedTold};
+ghost use Rattle.queries.specs.Crossed.{Crosses};
+ghost use Rattle.queries.specs.Asked.{segmentsAsked, segmentArcAsked, arcsAsked};
+ghost use Rattle.queries.specs.Need.{pairNeed};
 ghost use Rattle.queries.specs.Pairs.{closed, pairOutcome};
 use arc::Arc;
 use arc::Point;
@@ -23,7 +19,7 @@ use hits::HIT;
 use hunt::Tally;
 
 pub fn intersect_segments(a1: Point, a2: Point, b1: Point, b2: Point, room: &mut [f64]) -> Found
-    ensures { λ r. ⌜ Crossed (refusalOf (point a1 ++ point a2 ++ point b1 ++ point b2) 0 segmentsNeed (length (now (room .entry)))) (listed (one (intersectSegments a1 a2 b1 b2))) (length (listed (one (intersectSegments a1 a2 b1 b2))) ∷ []) (now (room .entry)) (foundTold r) (now (room .exit)) ⌝ }
+    ensures { λ r. ⌜ Crosses (segmentsAsked a1 a2 b1 b2) (now (room .entry)) (foundTold r) (now (room .exit)) ⌝ }
 {
     let f = checks::point(
         checks::point(checks::point(checks::point(checks::none(), a1), a2), b1),
@@ -38,7 +34,7 @@ pub fn intersect_segments(a1: Point, a2: Point, b1: Point, b2: Point, room: &mut
 }
 
 pub fn intersect_segment_arc(p1: Point, p2: Point, a: Arc, room: &mut [f64]) -> Found
-    ensures { λ r. ⌜ Crossed (refusalOf (point p1 ++ point p2 ++ arcNumbers a) 0 closedNeed (length (now (room .entry)))) (listed (intersectSegmentArc p1 p2 a)) (length (listed (intersectSegmentArc p1 p2 a)) ∷ []) (now (room .entry)) (foundTold r) (now (room .exit)) ⌝ }
+    ensures { λ r. ⌜ Crosses (segmentArcAsked p1 p2 a) (now (room .entry)) (foundTold r) (now (room .exit)) ⌝ }
 {
     let f = checks::arc(checks::point(checks::point(checks::none(), p1), p2), a);
     let no = checks::refusal(f, 0, 2 * HIT, room.len());
@@ -90,7 +86,7 @@ pub fn pair(a: Arc, b: Arc, depth: u32, room: &mut [f64]) -> Tally
 }
 
 pub fn intersect_arcs(a: Arc, b: Arc, depth: u32, room: &mut [f64]) -> Hunted
-    ensures { λ r. ⌜ Crossed (refusalOf (arcNumbers a ++ arcNumbers b) depth (pairNeed a b depth) (length (now (room .entry)))) (pairOutcome a b depth .hits) (tallyCounts (tally (pairOutcome a b depth))) (now (room .entry)) (huntedTold r) (now (room .exit)) ⌝ }
+    ensures { λ r. ⌜ Crosses (arcsAsked a b depth) (now (room .entry)) (huntedTold r) (now (room .exit)) ⌝ }
 {
     let f = checks::arc(checks::arc(checks::none(), a), b);
     let no = checks::refusal(f, depth, need(a, b, depth), room.len());

@@ -1,14 +1,13 @@
 // The query on two curves of either kind.
 ghost use mathlib.Core.Path.{_≡_};
-ghost use mathlib.Core.List.{_++_};
 ghost use Prim.Native.Nat.{_≤_};
 ghost use lib.ListN.{length};
 ghost use Rattle.hits.specs.Hit.{written};
 ghost use Rattle.hunt.specs.Outcome.{tally};
 ghost use Rattle.checks.specs.Given.{tested};
-ghost use Rattle.checks.specs.Refusal.{refusalOf};
-ghost use Rattle.checks.specs.Answer.{huntedTold, tallyCounts};
-ghost use Rattle.queries.specs.Crossed.{Crossed};
+ghost use Rattle.checks.specs.Answer.{huntedTold};
+ghost use Rattle.queries.specs.Crossed.{Crosses};
+ghost use Rattle.queries.specs.Asked.{curvesAsked};
 ghost use Rattle.queries.specs.Curves.{at, curveNumbers, curvesNeed, curvesOutcome};
 use crate::crossings;
 use arc::Arc;
@@ -87,7 +86,7 @@ fn cross(a: Curve, b: Curve, depth: u32, room: &mut [f64]) -> Tally
 
 // The crossings of two curves. The depth is tested for every pair.
 pub fn intersect(a: Curve, b: Curve, depth: u32, room: &mut [f64]) -> Hunted
-    ensures { λ r. ⌜ Crossed (refusalOf (curveNumbers a ++ curveNumbers b) depth (curvesNeed a b depth) (length (now (room .entry)))) (curvesOutcome a b depth .hits) (tallyCounts (tally (curvesOutcome a b depth))) (now (room .entry)) (huntedTold r) (now (room .exit)) ⌝ }
+    ensures { λ r. ⌜ Crosses (curvesAsked a b depth) (now (room .entry)) (huntedTold r) (now (room .exit)) ⌝ }
 {
     let f = numbers(numbers(checks::none(), a), b);
     let no = checks::refusal(f, depth, need(a, b, depth), room.len());

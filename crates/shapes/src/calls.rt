@@ -1,16 +1,8 @@
 // Distances, nearest parameters, arcs and circles from points, the conic fit (parts 7 to 9).
 ghost use mathlib.Core.Path.{_≡_};
-ghost use mathlib.Core.List.{[], _∷_, _++_};
-ghost use Rattle.checks.specs.Given.{coordinate, angle, point, arcNumbers};
-ghost use Rattle.checks.specs.Refusal.{refusalOf};
-ghost use Rattle.checks.specs.Answer.{answered, withheld, numberTold};
-ghost use Rattle.nearest.specs.ArcDist.{pointToArcDist};
-ghost use Rattle.nearest.specs.ArcParam.{nearestArcParam};
-ghost use Rattle.construct.specs.Conversion.{svgArcToCenter};
-ghost use Rattle.construct.specs.Circumscribed.{circumscribedArc};
-ghost use Rattle.construct.specs.TangentCircle.{circleTangentThrough};
-ghost use Rattle.earc_fit.specs.Fit.{fitEarcTangent};
-ghost use Rattle.shapes.specs.Shape.{nearTold, distanceTold, conversionTold, centerTold, threePointTold, throughTold, tangentCircleTold, tangentTold, fitTold, fittedTold};
+ghost use Rattle.checks.specs.Answer.{numberTold};
+ghost use Rattle.shapes.specs.Shape.{distanceTold, centerTold, throughTold, tangentTold, fittedTold};
+ghost use Rattle.shapes.specs.Told.{pointToArcDistTold, nearestArcParamTold, svgArcToCenterTold, circumscribedArcTold, circleTangentThroughTold, fitEarcTangentTold};
 use crate::answers;
 use crate::answers::Center;
 use crate::answers::Distance;
@@ -22,7 +14,7 @@ use arc::Point;
 use checks::Number;
 
 pub fn point_to_arc_dist(p: Point, a: Arc) -> Distance
-    ensures { λ r. ⌜ distanceTold r ≡ withheld (refusalOf (point p ++ arcNumbers a) 0 0 0) (nearTold (pointToArcDist p a)) ⌝ }
+    ensures { λ r. ⌜ distanceTold r ≡ pointToArcDistTold p a ⌝ }
 {
     let f = checks::arc(checks::point(checks::none(), p), a);
     answers::as_distance(
@@ -32,7 +24,7 @@ pub fn point_to_arc_dist(p: Point, a: Arc) -> Distance
 }
 
 pub fn nearest_arc_param(a: Arc, p: Point) -> Number
-    ensures { λ r. ⌜ numberTold r ≡ answered (refusalOf (arcNumbers a ++ point p) 0 0 0) (nearestArcParam a p ∷ []) [] ⌝ }
+    ensures { λ r. ⌜ numberTold r ≡ nearestArcParamTold a p ⌝ }
 {
     let f = checks::point(checks::arc(checks::none(), a), p);
     checks::as_number(
@@ -50,7 +42,7 @@ pub fn svg_arc_to_center(
     large_arc: bool,
     sweep: bool,
 ) -> Center
-    ensures { λ r. ⌜ centerTold r ≡ withheld (refusalOf (point p1 ++ point p2 ++ coordinate rx ∷ coordinate ry ∷ angle rotation ∷ []) 0 0 0) (conversionTold (svgArcToCenter p1 p2 rx ry rotation «large_arc» sweep)) ⌝ }
+    ensures { λ r. ⌜ centerTold r ≡ svgArcToCenterTold p1 p2 rx ry rotation «large_arc» sweep ⌝ }
 {
     let ends = checks::point(checks::point(checks::none(), p1), p2);
     let f = checks::angle(
@@ -64,7 +56,7 @@ pub fn svg_arc_to_center(
 }
 
 pub fn circumscribed_arc(p1: Point, p2: Point, p3: Point) -> Through
-    ensures { λ r. ⌜ throughTold r ≡ withheld (refusalOf (point p1 ++ point p2 ++ point p3) 0 0 0) (threePointTold (circumscribedArc p1 p2 p3)) ⌝ }
+    ensures { λ r. ⌜ throughTold r ≡ circumscribedArcTold p1 p2 p3 ⌝ }
 {
     let f = checks::point(checks::point(checks::point(checks::none(), p1), p2), p3);
     answers::as_through(
@@ -75,7 +67,7 @@ pub fn circumscribed_arc(p1: Point, p2: Point, p3: Point) -> Through
 
 // t is a direction.
 pub fn circle_tangent_through(s: Point, e: Point, t: Point) -> Tangent
-    ensures { λ r. ⌜ tangentTold r ≡ withheld (refusalOf (point s ++ point e ++ point t) 0 0 0) (tangentCircleTold (circleTangentThrough s e t)) ⌝ }
+    ensures { λ r. ⌜ tangentTold r ≡ circleTangentThroughTold s e t ⌝ }
 {
     let f = checks::point(checks::point(checks::point(checks::none(), s), e), t);
     answers::as_tangent(
@@ -86,7 +78,7 @@ pub fn circle_tangent_through(s: Point, e: Point, t: Point) -> Tangent
 
 // t1 and t2 are directions.
 pub fn fit_earc_tangent(p1: Point, t1: Point, p2: Point, t2: Point, bulge: f64) -> FittedArc
-    ensures { λ r. ⌜ fittedTold r ≡ withheld (refusalOf (point p1 ++ point t1 ++ point p2 ++ point t2 ++ coordinate bulge ∷ []) 0 0 0) (fitTold (fitEarcTangent p1 t1 p2 t2 bulge)) ⌝ }
+    ensures { λ r. ⌜ fittedTold r ≡ fitEarcTangentTold p1 t1 p2 t2 bulge ⌝ }
 {
     let first = checks::point(checks::point(checks::none(), p1), t1);
     let f = checks::coordinate(checks::point(checks::point(first, p2), t2), bulge);

@@ -1,6 +1,7 @@
 -- `arcs_c::closed::arcs_intersect_segments` meets its contract. Assumes nothing.
 use native.Mathlib.Omega.{arith}
-use Rattle.arcs_c.proofs.Rooms.{hits-out, hits-short, refusal-short}
+use Rattle.lent.proofs.Rooms.{hits-out, hits-short, refusal-short}
+use Rattle.queries.specs.Asked.{segmentsAsked}
 use borrow.Author.Needs.{needs}
 use Rattle.arcs_c.proofs.closed.arcs_intersect_segments.Statement.{statement}
 use Rattle.arcs_c.proofs.closed.arcs_intersect_segments.Tie as tie
@@ -11,20 +12,20 @@ slice-aggregate-intersect-segments c = search needs
 intersect-segments-requires : tie.Need-intersect-segments-requires
 intersect-segments-requires c κs = tt
 
-refused-requires : tie.Need-refused-requires
-refused-requires c κs = tt
+found-refusal-requires : tie.Need-found-refusal-requires
+found-refusal-requires c κs = tt
 
 returns : tie.Need-returns
-returns c = rw (c .refused .ensures) (hits-short (c .before .before .intersect-segments .ensures) (refusal-short _ _ _ _ _ (omega arith)) (c .before .before .before .before .if1 .taken))
+returns c = rw (c .found-refusal .ensures) (hits-short (segmentsAsked _ _ _ _) (c .before .before .intersect-segments .ensures) (refusal-short _ _ _ _ _ (omega arith)) (c .before .before .before .before .if1 .taken))
 
 intersect-segments-requires-2 : tie.Need-intersect-segments-requires-2
 intersect-segments-requires-2 c κs = tt
 
-count-requires : tie.Need-count-requires
-count-requires c κs = search needs
+count-found-requires : tie.Need-count-found-requires
+count-found-requires c κs = search needs
 
-refused-requires-2 : tie.Need-refused-requires-2
-refused-requires-2 c κs = tt
+found-refusal-requires-2 : tie.Need-found-refusal-requires-2
+found-refusal-requires-2 c κs = tt
 
 same-length : tie.Need-same-length
 same-length c = search needs
@@ -33,7 +34,7 @@ same-length-2 : tie.Need-same-length-2
 same-length-2 c = search needs
 
 returns-2 : tie.Need-returns-2
-returns-2 c = rw (c .refused2 .ensures) (hits-out (c .before .before .before .before .before .before .before .intersect-segments2 .ensures) (c .before .before .before .before .before .before .before .before .before .if1 .left) (c .before .before .before .count .ensures))
+returns-2 c = rw (c .found-refusal2 .ensures) (hits-out (segmentsAsked _ _ _ _) (c .before .before .before .before .before .before .before .intersect-segments2 .ensures) (c .before .before .before .before .before .before .before .before .before .if1 .left) (c .before .before .before .count-found .ensures))
 
 pub arcs-intersect-segments-spec : {M : Type 1} → statement M
 arcs-intersect-segments-spec =
@@ -41,11 +42,11 @@ arcs-intersect-segments-spec =
     (tie.spec
     slice-aggregate-intersect-segments
     intersect-segments-requires
-    refused-requires
+    found-refusal-requires
     returns
     intersect-segments-requires-2
-    count-requires
-    refused-requires-2
+    count-found-requires
+    found-refusal-requires-2
     same-length
     same-length-2
     returns-2)

@@ -1,29 +1,29 @@
 -- `points::positions::arc_point_at` meets its contract. Assumes nothing.
 use Rattle.checks.specs.Given.{tested}
-use borrow.Author.Needs.{needs}
+use Rattle.points.specs.Told.{arcPointAtTold}
 use Rattle.points.proofs.positions.arc_point_at.Statement.{statement}
 use Rattle.points.proofs.positions.arc_point_at.Tie as tie
 
 none-requires : tie.Need-none-requires
-none-requires c κs = search needs
+none-requires c κs = tt
 
 arc-requires : tie.Need-arc-requires
-arc-requires c κs = search needs
+arc-requires c κs = tt
 
 angle-requires : tie.Need-angle-requires
-angle-requires c κs = search needs
+angle-requires c κs = tt
 
 refusal-requires : tie.Need-refusal-requires
-refusal-requires c κs = search needs
+refusal-requires c κs = tt
 
 arc-point-at-requires : tie.Need-arc-point-at-requires
-arc-point-at-requires c κs = search needs
+arc-point-at-requires c κs = tt
 
 as-pair-requires : tie.Need-as-pair-requires
-as-pair-requires c κs = search needs
+as-pair-requires c κs = tt
 
 returns : tie.Need-returns
-unfolding tested
+unfolding arcPointAtTold tested
 returns c = rw (c .as-pair .ensures, c .before .arc-point-at .ensures, c .before .before .refusal .ensures, c .before .before .before .angle .ensures, c .before .before .before .before .arc .ensures, c .before .before .before .before .before .none .ensures)
 
 pub arc-point-at-spec : {M : Type 1} → statement M

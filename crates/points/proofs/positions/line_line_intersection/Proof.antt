@@ -1,35 +1,35 @@
 -- `points::positions::line_line_intersection` meets its contract. Assumes nothing.
 use Rattle.checks.specs.Given.{tested}
-use borrow.Author.Needs.{needs}
+use Rattle.points.specs.Told.{lineLineIntersectionTold}
 use Rattle.points.proofs.positions.line_line_intersection.Statement.{statement}
 use Rattle.points.proofs.positions.line_line_intersection.Tie as tie
 
 none-requires : tie.Need-none-requires
-none-requires c κs = search needs
+none-requires c κs = tt
 
 point-requires : tie.Need-point-requires
-point-requires c κs = search needs
+point-requires c κs = tt
 
 point-requires-2 : tie.Need-point-requires-2
-point-requires-2 c κs = search needs
+point-requires-2 c κs = tt
 
 point-requires-3 : tie.Need-point-requires-3
-point-requires-3 c κs = search needs
+point-requires-3 c κs = tt
 
 point-requires-4 : tie.Need-point-requires-4
-point-requires-4 c κs = search needs
+point-requires-4 c κs = tt
 
 refusal-requires : tie.Need-refusal-requires
-refusal-requires c κs = search needs
+refusal-requires c κs = tt
 
 line-line-intersection-requires : tie.Need-line-line-intersection-requires
-line-line-intersection-requires c κs = search needs
+line-line-intersection-requires c κs = tt
 
 as-pair-requires : tie.Need-as-pair-requires
-as-pair-requires c κs = search needs
+as-pair-requires c κs = tt
 
 returns : tie.Need-returns
-unfolding tested
+unfolding lineLineIntersectionTold tested
 returns c = rw (c .as-pair .ensures, c .before .line-line-intersection .ensures, c .before .before .refusal .ensures, c .before .before .before .point4 .ensures, c .before .before .before .before .point3 .ensures, c .before .before .before .before .before .point2 .ensures, c .before .before .before .before .before .before .point .ensures, c .before .before .before .before .before .before .before .none .ensures)
 
 pub line-line-intersection-spec : {M : Type 1} → statement M

@@ -1,29 +1,29 @@
 -- `shapes::calls::nearest_arc_param` meets its contract. Assumes nothing.
 use Rattle.checks.specs.Given.{tested}
-use borrow.Author.Needs.{needs}
+use Rattle.shapes.specs.Told.{nearestArcParamTold}
 use Rattle.shapes.proofs.calls.nearest_arc_param.Statement.{statement}
 use Rattle.shapes.proofs.calls.nearest_arc_param.Tie as tie
 
 none-requires : tie.Need-none-requires
-none-requires c κs = search needs
+none-requires c κs = tt
 
 arc-requires : tie.Need-arc-requires
-arc-requires c κs = search needs
+arc-requires c κs = tt
 
 point-requires : tie.Need-point-requires
-point-requires c κs = search needs
+point-requires c κs = tt
 
 refusal-requires : tie.Need-refusal-requires
-refusal-requires c κs = search needs
+refusal-requires c κs = tt
 
 nearest-arc-param-requires : tie.Need-nearest-arc-param-requires
-nearest-arc-param-requires c κs = search needs
+nearest-arc-param-requires c κs = tt
 
 as-number-requires : tie.Need-as-number-requires
-as-number-requires c κs = search needs
+as-number-requires c κs = tt
 
 returns : tie.Need-returns
-unfolding tested
+unfolding nearestArcParamTold tested
 returns c = rw (c .as-number .ensures, c .before .nearest-arc-param .ensures, c .before .before .refusal .ensures, c .before .before .before .point .ensures, c .before .before .before .before .arc .ensures, c .before .before .before .before .before .none .ensures)
 
 pub nearest-arc-param-spec : {M : Type 1} → statement M

@@ -1,3 +1,0 @@
--- What is proved of the definitions in specs/.
-mod Places
-mod Rooms

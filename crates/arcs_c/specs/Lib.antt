@@ -1,4 +1,0 @@
--- What the contracts of the exports cite beside the library's own definitions.
-pub mod Lent
-pub mod Exported
-pub mod Told

@@ -1,0 +1,30 @@
+-- `lent::counts::count_found` meets its contract. Assumes nothing.
+use mathlib.Core.Path.{refl}
+use Rattle.lent.specs.Lent.{placed}
+use borrow.Author.Needs.{needs}
+use Rattle.lent.proofs.counts.count_found.Statement.{statement}
+use Rattle.lent.proofs.counts.count_found.Tie as tie
+
+enum-known-f : tie.Need-enum-known-f
+enum-known-f c = search needs
+
+slice-write-counts : tie.Need-slice-write-counts
+slice-write-counts c = search needs
+
+enum-told : tie.Need-enum-told
+enum-told c = search needs
+
+same-length : tie.Need-same-length
+same-length c = search needs
+
+returns : tie.Need-returns
+unfolding placed
+returns c = rw (c .before .f .given .1) refl
+
+returns-2 : tie.Need-returns-2
+unfolding placed
+returns-2 c = rw (c .enum-told .given .1) refl
+
+pub count-found-spec : {M : Type 1} → statement M
+count-found-spec =
+    tie.close (tie.spec enum-known-f slice-write-counts enum-told same-length returns returns-2)

@@ -1,0 +1,24 @@
+-- `lent::given::give` meets its contract. Assumes nothing.
+use mathlib.Core.Path.{refl}
+use lib.ListN.{length}
+use borrow.Author.Tests.{lt-ltb, le-ltb}
+use borrow.Author.Needs.{needs}
+use Rattle.lent.proofs.given.give.Statement.{statement}
+use Rattle.lent.proofs.given.give.Tie as tie
+
+returns : tie.Need-returns
+returns c =
+    let z = c .before .before .before .args in
+    record { refusal = rw (lt-ltb (length (z .out .now)) (length (z .numbers .now)) (c .if1 .taken)) refl; values = refl }
+
+place-requires : tie.Need-place-requires
+place-requires c κs = c .before .if1 .left
+
+same-length : tie.Need-same-length
+same-length c = search needs
+
+returns-2 : tie.Need-returns-2
+returns-2 c = record { refusal = rw (le-ltb _ _ (c .before .before .before .before .if1 .left)) refl; values = c .before .before .place .ensures }
+
+pub give-spec : {M : Type 1} → statement M
+give-spec = tie.close (tie.spec returns place-requires same-length returns-2)

@@ -1,0 +1,31 @@
+-- `lent::numbers::number` meets its contract. Assumes nothing.
+use mathlib.Core.Path.{sym, _∙_}
+use lib.Ieee.{nan}
+use lib.ListN.{List·getD-eq-default}
+use Rattle.lent.specs.Lent.{lentNumber}
+use Rattle.lent.proofs.Places.{getD-within}
+use borrow.Author.Needs.{needs}
+use Rattle.lent.proofs.numbers.number.Statement.{statement}
+use Rattle.lent.proofs.numbers.number.Tie as tie
+
+mul-result : tie.Need-mul-result
+mul-result c = search needs
+
+shared-slice-read-result : tie.Need-shared-slice-read-result
+shared-slice-read-result c = search needs
+
+returns : tie.Need-returns
+unfolding lentNumber
+returns c = let a = c .before .before .before .args in getD-within (a .numbers .now) (a .i) _ nan (c .before .if1 .taken)
+
+not-a-number-requires : tie.Need-not-a-number-requires
+not-a-number-requires c κs = tt
+
+returns-2 : tie.Need-returns-2
+unfolding lentNumber
+returns-2 c = c .not-a-number .ensures ∙ sym (List·getD-eq-default (c .before .before .before .args .numbers .now) nan (c .before .if1 .left))
+
+pub number-spec : {M : Type 1} → statement M
+number-spec =
+    tie.close
+    (tie.spec mul-result shared-slice-read-result returns not-a-number-requires returns-2)
