@@ -1,14 +1,17 @@
 // What the library answers to the inputs of a row. The calls have the numbers of the table in bench/src/bin/samples.rs.
 ghost use mathlib.Core.Path.{_≡_};
-ghost use lib.ListN.{length};
 ghost use Prim.Native.Nat.{_≤_, _<_};
+ghost use lib.ListN.{length};
+use crate::by_arc;
+use crate::by_numbers;
 use crate::crossings;
-use crate::figures;
-use crate::positions;
 use crate::words;
 
 // A row begins with the call's number and how many inputs it has.
 const FIRST: usize = 2;
+
+// What stands where an answer is to be written: a number that no answer has.
+pub const UNWRITTEN: f64 = 1.0e300;
 
 // The refusal, 0 for none, and how many words are told.
 pub struct Told {
@@ -16,22 +19,21 @@ pub struct Told {
     pub len: usize,
 }
 
-// Where a call is refused nothing is told.
-pub fn given(refusal: u32, len: usize) -> Told {
-    if refusal == 0 {
-        return Told {
-            refusal: 0,
-            len: len,
-        };
-    }
-    Told {
-        refusal: refusal as u64,
-        len: 0,
-    }
+// The first inputs as numbers. Where one is a whole number, what its bits would be as a number is not used.
+pub struct First {
+    pub a: f64,
+    pub b: f64,
+    pub c: f64,
+    pub d: f64,
+    pub e: f64,
+    pub f: f64,
+    pub g: f64,
+    pub h: f64,
+    pub i: f64,
 }
 
 // How many inputs a call has; 0 of a number that no call has.
-pub fn inputs(call: u64) -> usize
+pub fn arity(call: u64) -> usize
     ensures { λ r. ⌜ r ≤ 18 ⌝ }
 {
     match call {
@@ -48,14 +50,59 @@ pub fn inputs(call: u64) -> usize
     }
 }
 
-// The inputs from one on as numbers. What a whole number's bits would be as a number is not used.
-pub fn numbers(words: &[u64; 128], from: usize) -> [f64; 18]
-    requires { ⌜ from < 18 ⌝ }
-    ensures { λ r. ⌜ 18 ≡ length r ⌝ }
+// How many numbers a call answers that lends no room.
+fn outputs(call: u64) -> usize {
+    match call {
+        7 | 8 | 0xa..=0xc | 0x15 => 1,
+        0x14 | 0x18 => 3,
+        0x16 | 0x17 => 6,
+        0x19 => 8,
+        _ => 2,
+    }
+}
+
+// Where a call is refused nothing is told.
+pub fn given(refusal: u32, len: usize) -> Told {
+    if refusal == 0 {
+        return Told {
+            refusal: 0,
+            len: len,
+        };
+    }
+    Told {
+        refusal: refusal as u64,
+        len: 0,
+    }
+}
+
+pub fn number(words: &[u64; 128], input: usize) -> f64
+    requires { ⌜ input < 36 ⌝ }
 {
-    let mut x = [0.0; 18];
-    for i in 0..18usize {
-        x[i] = scalar::from_bits(words[FIRST + from + i]);
+    scalar::from_bits(words[FIRST + input])
+}
+
+pub fn first_inputs(words: &[u64; 128]) -> First {
+    First {
+        a: number(words, 0),
+        b: number(words, 1),
+        c: number(words, 2),
+        d: number(words, 3),
+        e: number(words, 4),
+        f: number(words, 5),
+        g: number(words, 6),
+        h: number(words, 7),
+        i: number(words, 8),
+    }
+}
+
+// The inputs from one on, the seven numbers of an arc or the twelve of a room that is written.
+pub fn arc(words: &[u64; 128], from: usize) -> [f64; 12]
+    requires { ⌜ from < 18 ⌝ }
+    ensures { λ r. ⌜ 12 ≡ length r ⌝ }
+{
+    let mut x = [0.0; 12];
+    for i in 0..12usize {
+        x[i] = number(words, from + i);
     }
     x
 }
@@ -78,20 +125,20 @@ pub fn size(words: &[u64; 128], input: usize) -> usize
     words[FIRST + input] as usize
 }
 
-fn in_numbers(words: &[u64; 128], out: &mut [f64]) -> Told {
-    if words[0] < 0xf {
-        return positions::answer(words, out);
+fn ask(words: &[u64; 128], out: &mut [f64]) -> u32 {
+    let call = words[0];
+    match call {
+        3..=6 | 8..=0xb | 0x14 | 0x15 => by_arc::ask(words, out),
+        _ => by_numbers::ask(words, out),
     }
-    figures::answer(words, out)
 }
 
 // No answer in numbers has more than eight.
 fn numbers_answer(words: &[u64; 128], out: &mut [u64; 128]) -> Told {
-    let unwritten = scalar::not_a_number();
-    let mut numbers = [unwritten; 8];
-    let told = in_numbers(words, &mut numbers);
+    let mut numbers = [UNWRITTEN; 8];
+    let refusal = ask(words, &mut numbers);
     words::put_numbers(&numbers, 8, out, 0);
-    told
+    given(refusal, outputs(words[0]))
 }
 
 // The answer's words go to `out`.

@@ -29,51 +29,35 @@ fn room_input(call: u64) -> usize
     }
 }
 
-fn crossed(words: &[u64; 128], room: &mut [f64], counts: &mut [u64]) -> u32 {
-    let x = asked::numbers(words, 0);
-    let call = words[0];
-    match call {
-        0xf => arcs_c::arcs_intersect_segments(
-            x[0],
-            x[1],
-            x[2],
-            x[3],
-            x[4],
-            x[5],
-            x[6],
-            x[7],
-            room,
-            counts,
-        ),
-        0x10 => arcs_c::arcs_intersect_segment_arc(
-            x[0],
-            x[1],
-            x[2],
-            x[3],
-            &asked::numbers(words, 4),
-            asked::whole(words, 11),
-            room,
-            counts,
-        ),
-        0x11 => arcs_c::arcs_intersect_arcs(
-            &x,
-            asked::whole(words, 7),
-            &asked::numbers(words, 8),
-            asked::whole(words, 15),
-            asked::whole(words, 16),
-            room,
-            counts,
-        ),
-        _ => arcs_c::arcs_intersect(
-            &x,
-            asked::whole(words, 7),
-            &asked::numbers(words, 8),
-            asked::whole(words, 15),
-            asked::whole(words, 16),
-            room,
-            counts,
-        ),
+fn closed(words: &[u64; 128], room: &mut [f64], counts: &mut [u64]) -> u32 {
+    let x = asked::first_inputs(words);
+    if words[0] == 0xf {
+        return arcs_c::arcs_intersect_segments(
+            x.a, x.b, x.c, x.d, x.e, x.f, x.g, x.h, room, counts,
+        );
     }
+    let a = asked::arc(words, 4);
+    let marks = asked::whole(words, 11);
+    arcs_c::arcs_intersect_segment_arc(x.a, x.b, x.c, x.d, &a, marks, room, counts)
+}
+
+fn pair(words: &[u64; 128], room: &mut [f64], counts: &mut [u64]) -> u32 {
+    let a = asked::arc(words, 0);
+    let a_marks = asked::whole(words, 7);
+    let b = asked::arc(words, 8);
+    let b_marks = asked::whole(words, 15);
+    let depth = asked::whole(words, 16);
+    if words[0] == 0x11 {
+        return arcs_c::arcs_intersect_arcs(&a, a_marks, &b, b_marks, depth, room, counts);
+    }
+    arcs_c::arcs_intersect(&a, a_marks, &b, b_marks, depth, room, counts)
+}
+
+fn crossed(words: &[u64; 128], room: &mut [f64], counts: &mut [u64]) -> u32 {
+    if words[0] < 0x11 {
+        return closed(words, room, counts);
+    }
+    pair(words, room, counts)
 }
 
 // How many counts a call gives.
@@ -94,11 +78,11 @@ fn in_room(words: &[u64; 128], room: &mut [f64], out: &mut [u64; 128]) -> Told {
     asked::given(refusal, head + hits * HIT)
 }
 
-// No pair needs more, so that a longer room changes nothing. It is full of a number that no hit has.
+// No pair needs more, so that a longer room changes nothing.
 fn blank_room() -> [f64; 8192]
     ensures { λ r. ⌜ 8192 ≡ length r ⌝ }
 {
-    [1.0e300; 8192]
+    [asked::UNWRITTEN; 8192]
 }
 
 fn room_answer(words: &[u64; 128], out: &mut [u64; 128]) -> Told {
@@ -108,10 +92,9 @@ fn room_answer(words: &[u64; 128], out: &mut [u64; 128]) -> Told {
 
 // A hit is four numbers or none.
 fn hit_answer(words: &[u64; 128], out: &mut [u64; 128]) -> Told {
-    let unwritten = scalar::not_a_number();
-    let mut numbers = [unwritten; 4];
+    let mut numbers = [asked::UNWRITTEN; 4];
     let mut counts = [0u64; 1];
-    let room = asked::numbers(words, 0);
+    let room = asked::arc(words, 0);
     let lent = least(asked::size(words, 12), 12);
     let refusal = arcs_c::arcs_hit(
         &room[..lent],

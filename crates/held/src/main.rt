@@ -3,9 +3,9 @@
 // words are told, and each word, numbers by their bits. It prints for each call how many rows it had and how many of them the
 // library answers otherwise; at last the sum, and how many rows could not be read.
 mod asked;
+mod by_arc;
+mod by_numbers;
 mod crossings;
-mod figures;
-mod positions;
 mod rows;
 mod words;
 
@@ -48,7 +48,7 @@ fn held(words: &[u64; 128], inputs: usize, outputs: usize) -> Row
 
 // A row is read where it has as many words as it says.
 fn read(words: &[u64; 128], len: usize) -> Row {
-    let inputs = asked::inputs(words[0]);
+    let inputs = asked::arity(words[0]);
     if inputs == 0 {
         return Row::Unread;
     }
@@ -194,38 +194,9 @@ fn print_counts(asked: u64, differ: u64) {
     print(b" differ");
 }
 
-fn print_name(call: usize) {
-    match call {
-        1 => print(b"ellipse_point"),
-        2 => print(b"ellipse_tangent"),
-        3 => print(b"arc_point_at"),
-        4 => print(b"arc_tangent_at"),
-        5 => print(b"arc_start_pos"),
-        6 => print(b"arc_end_pos"),
-        7 => print(b"norm_tau"),
-        8 => print(b"arc_param_in_span"),
-        9 => print(b"arc_radii"),
-        0xa => print(b"arc_theta_of_pos"),
-        0xb => print(b"arc_param_at_point"),
-        0xc => print(b"point_to_segment_dist"),
-        0xd => print(b"project_onto_segment"),
-        0xe => print(b"line_line_intersection"),
-        0xf => print(b"intersect_segments"),
-        0x10 => print(b"intersect_segment_arc"),
-        0x11 => print(b"intersect_arcs"),
-        0x12 => print(b"intersect"),
-        0x13 => print(b"hit"),
-        0x14 => print(b"point_to_arc_dist"),
-        0x15 => print(b"nearest_arc_param"),
-        0x16 => print(b"svg_arc_to_center"),
-        0x17 => print(b"circumscribed_arc"),
-        0x18 => print(b"circle_tangent_through"),
-        _ => print(b"fit_earc_tangent"),
-    }
-}
-
-fn print_call(call: usize, asked: u64, differ: u64) {
-    print_name(call);
+fn print_call(call: u64, asked: u64, differ: u64) {
+    print(b"call ");
+    io::print_hex(STDOUT_FILENO, call, 1);
     print(b": ");
     print_counts(asked, differ);
     print(b"\n");
@@ -233,7 +204,7 @@ fn print_call(call: usize, asked: u64, differ: u64) {
 
 fn print_calls(asked: &[u64; 26], differ: &[u64; 26]) {
     for call in 1..26usize {
-        print_call(call, asked[call], differ[call]);
+        print_call(call as u64, asked[call], differ[call]);
     }
 }
 

@@ -5,11 +5,8 @@ use borrow.Author.Needs.{needs}
 use Rattle.held.proofs.crossings.hit_answer.Statement.{statement}
 use Rattle.held.proofs.crossings.hit_answer.Tie as tie
 
-not-a-number-requires : tie.Need-not-a-number-requires
-not-a-number-requires c κs = search needs
-
-numbers-requires : tie.Need-numbers-requires
-numbers-requires c κs = search needs
+arc-requires : tie.Need-arc-requires
+arc-requires c κs = search needs
 
 size-requires : tie.Need-size-requires
 size-requires c κs = search needs
@@ -21,7 +18,7 @@ array-share-prefix-room : tie.Need-array-share-prefix-room
 array-share-prefix-room c = search needs
 
 slice-aggregate-arcs-hit : tie.Need-slice-aggregate-arcs-hit
-slice-aggregate-arcs-hit c = omega (arith, length-take (c .before .least .result) (c .before .before .before .numbers .result), c .before .least .ensures, c .before .before .before .numbers .ensures)
+slice-aggregate-arcs-hit c = omega (arith, length-take (c .before .least .result) (c .before .before .before .arc .result), c .before .least .ensures, c .before .before .before .arc .ensures)
 
 size-requires-2 : tie.Need-size-requires-2
 size-requires-2 c κs = search needs
@@ -60,8 +57,7 @@ pub hit-answer-spec : {M : Type 1} → statement M
 hit-answer-spec =
     tie.close
     (tie.spec
-    not-a-number-requires
-    numbers-requires
+    arc-requires
     size-requires
     least-requires
     array-share-prefix-room
