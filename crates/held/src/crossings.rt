@@ -33,7 +33,16 @@ fn closed(words: &[u64; 128], room: &mut [f64], counts: &mut [u64]) -> u32 {
     let x = asked::first_inputs(words);
     if words[0] == 0xf {
         return arcs_c::arcs_intersect_segments(
-            x.a, x.b, x.c, x.d, x.e, x.f, x.g, x.h, room, counts,
+            x.a,
+            x.b,
+            x.c,
+            x.d,
+            x.e,
+            x.f,
+            x.g,
+            x.h,
+            room,
+            counts,
         );
     }
     let a = asked::arc(words, 4);

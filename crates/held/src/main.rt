@@ -1,7 +1,8 @@
 // Every public call held against stored answers of the original. A row of standard input is a call, its inputs and its answer,
-// in the form that bench/src/bin/samples.rs says. The program asks the library the same and compares the refusal, how many
-// words are told, and each word, numbers by their bits. It prints for each call how many rows it had and how many of them the
-// library answers otherwise; at last the sum, and how many rows could not be read.
+// in the form that bench/src/bin/samples.rs says, which wrote them: `bench/run samples 1 > crates/held/stdin`. The program asks
+// the library the same, and compares the refusal, how many words are told, and each word; a number's word is its bits, with
+// one NaN. It prints for each call how many rows it had and how many of them the library answers otherwise; at last the sum,
+// and how many rows could not be read.
 mod asked;
 mod by_arc;
 mod by_numbers;
@@ -9,8 +10,7 @@ mod crossings;
 mod rows;
 mod words;
 
-ghost use Prim.Native.Nat.{_≤_, _<_, _+_};
-ghost use lib.ListN.{length};
+ghost use Prim.Native.Nat.{_≤_, _+_};
 use libc::STDIN_FILENO;
 use libc::STDOUT_FILENO;
 use rows::Reader;

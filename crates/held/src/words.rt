@@ -1,6 +1,6 @@
 // Words of an answer: the bits of its numbers with one NaN, and its whole numbers.
-ghost use mathlib.Core.Path.{_≡_};
 ghost use Prim.Native.Nat.{_+_, _≤_};
+ghost use Rattle.held.specs.Agree.{Agree, Decides};
 
 fn put(out: &mut [u64; 128], at: usize, word: u64) {
     if at < 128 {
@@ -35,6 +35,7 @@ pub fn put_words(words: &[u64; 6], n: usize, out: &mut [u64; 128])
 // Whether the n words from `at` on are the first n of those told.
 pub fn same(words: &[u64; 128], at: usize, told: &[u64; 128], n: usize) -> bool
     requires { ⌜ at + n ≤ 128 ⌝ }
+    ensures { λ r. ⌜ Decides r (Agree (now (words .entry)) at (now (told .entry)) n) ⌝ }
 {
     for i in 0..n {
         if words[at + i] != told[i] {
