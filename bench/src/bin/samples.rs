@@ -1,4 +1,5 @@
-//! Answers of the oracle over all public calls, for a program to replay. `bench/run samples [SEED]`
+//! Writes the rows that the program `held` is run on: inputs of all public calls, and the oracle's answers.
+//! `bench/run samples 1 > crates/held/stdin`; 1 is the seed of the inputs.
 //!
 //! One call a line, fields parted by one tab. Every field is a whole number in lower-case hex digits:
 //!

@@ -1,8 +1,8 @@
-// Digits of numbers, written as bytes to lent memory.
+// Digits of numbers as bytes: written to lent memory, and the value of one that is read.
 ghost use mathlib.Core.Path.{_≡_};
 ghost use Prim.Native.Nat.{_+_, _<_, _≤_};
 ghost use lib.ListN.{length};
-ghost use Rattle.digits.specs.Hex.{hexDigit, hex};
+ghost use Rattle.digits.specs.Hex.{hexDigit, hex, hexValue};
 ghost use Rattle.digits.specs.Decimal.{decimal};
 ghost use Rattle.digits.specs.Spliced.{Put};
 
@@ -58,4 +58,23 @@ pub fn put_decimal(out: &mut [u8], at: usize, n: u64) -> usize
         rest = rest / 10;
     }
     at + digits
+}
+
+// The value of a lower-case hex digit; 16 of any other byte.
+pub fn hex_value(b: u64) -> u64
+    ensures { λ r. ⌜ r ≡ hexValue b ⌝ }
+{
+    if b < 48 {
+        return 16;
+    }
+    if b < 58 {
+        return b - 48;
+    }
+    if b < 97 {
+        return 16;
+    }
+    if b < 103 {
+        return b - 87;
+    }
+    16
 }

@@ -7,11 +7,10 @@ use native.Mathlib.Omega.{arith}
 use lib.ListN.{length, take, drop, length-append, take-append-drop}
 use lib.Seq.{append-snoc}
 use borrow.Author.Tests.{lt-leb, le-leb}
-use Rattle.digits.specs.Hex.{hexDigit, hexDigits, hex}
+use Rattle.digits.specs.Hex.{hexDigit, hexDigits, hex, hexValue}
 use Rattle.lines.specs.declared.Field.the-variants as field
-use Rattle.lines.specs.Digit.{hexValue}
 use Rattle.lines.specs.Field.{bitsAfter}
-use Rattle.lines.proofs.Digits.{hex-digit-value, hex-value-digit}
+use Rattle.digits.proofs.HexValue.{hex-digit-value, hex-value-digit}
 use Rattle.lines.proofs.Steps.{sixteens}
 use Rattle.lines.proofs.Taken.{never, same}
 

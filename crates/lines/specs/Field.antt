@@ -10,7 +10,8 @@ use Rattle.lines.specs.declared.Field.the-variants as field
 use Rattle.lines.specs.declared.Numbered.{Numbered}
 use Rattle.lines.specs.declared.Numbered.the-variants as numbered
 use Rattle.lines.specs.Grammar.{valueAfter, capped}
-use Rattle.lines.specs.Digit.{hexValue, digitValue}
+use Rattle.digits.specs.Hex.{hexValue}
+use Rattle.lines.specs.Digit.{digitValue}
 
 -- k hex digits that come after the value v
 unfoldable pub bitsAfter : ℕ → ℕ → List ℕ → Field

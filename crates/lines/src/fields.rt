@@ -19,7 +19,7 @@ fn bits(line: &[u8], at: usize) -> Field
     let mut v: u64 = 0;
     let mut i: usize = 0;
     while i < 16 {
-        let d = bytes::hex_value(bytes::byte(line, at + i));
+        let d = digits::hex_value(bytes::byte(line, at + i));
         if 16 <= d {
             return Field::None;
         }

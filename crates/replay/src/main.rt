@@ -36,20 +36,11 @@ struct Tally {
     unknown: Count,
 }
 
+// A byte that is no digit counts as 0.
 fn hex_digit(b: u8) -> u64
     ensures { λ r. ⌜ r < 16 ⌝ }
 {
-    if b'0' <= b {
-        if b <= b'9' {
-            return (b - b'0') as u64;
-        }
-        if b'a' <= b {
-            if b <= b'f' {
-                return (b - b'a') as u64 + 10;
-            }
-        }
-    }
-    0
+    digits::hex_value(b as u64) % 16
 }
 
 // The 16 hex digits from index `from` on.

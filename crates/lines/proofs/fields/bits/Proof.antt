@@ -3,7 +3,7 @@ use mathlib.Core.Path.{_≡_, sym, _∙_}
 use Prim.Native.Nat.{_+_, _-_, _≤_, _<_}
 use native.Mathlib.Omega.{arith}
 use lib.ListN.{getD, drop}
-use Rattle.lines.specs.Digit.{hexValue}
+use Rattle.digits.specs.Hex.{hexValue}
 use Rattle.lines.specs.Field.{bitsAfter}
 use Rattle.lines.proofs.Steps.{bits-done, bits-stop, bits-more, sixteens, sixteens-none, sixteens-more, sixteens-fit}
 use Rattle.lines.proofs.fields.bits.Statement.{statement}

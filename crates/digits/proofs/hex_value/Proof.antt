@@ -1,10 +1,10 @@
--- `bytes::hex_value` meets its contract. Assumes nothing.
+-- `digits::hex_value` meets its contract. Assumes nothing.
 use mathlib.Core.Path.{sym}
 use native.Mathlib.Omega.{arith}
-use Rattle.lines.proofs.Digits.{hex-before, hex-numeral, hex-between, hex-letter, hex-past}
+use Rattle.digits.proofs.HexValue.{hex-before, hex-numeral, hex-between, hex-letter, hex-past}
 use borrow.Author.Needs.{needs}
-use Rattle.lines.proofs.bytes.hex_value.Statement.{statement}
-use Rattle.lines.proofs.bytes.hex_value.Tie as tie
+use Rattle.digits.proofs.hex_value.Statement.{statement}
+use Rattle.digits.proofs.hex_value.Tie as tie
 
 returns : tie.Need-returns
 returns c = sym (hex-before _ (c .if1 .taken))

@@ -1,0 +1,151 @@
+// What the library answers to the inputs of a row. The calls have the numbers of the table in bench/src/bin/samples.rs.
+ghost use mathlib.Core.Path.{_≡_};
+ghost use Prim.Native.Nat.{_≤_, _<_};
+ghost use lib.ListN.{length};
+use crate::by_arc;
+use crate::by_numbers;
+use crate::crossings;
+use crate::words;
+
+// A row begins with the call's number and how many inputs it has.
+const FIRST: usize = 2;
+
+// What stands where an answer is to be written: a number that no answer has.
+pub const UNWRITTEN: f64 = 1.0e300;
+
+// The refusal, 0 for none, and how many words are told.
+pub struct Told {
+    pub refusal: u64,
+    pub len: usize,
+}
+
+// The first inputs as numbers. Where one is a whole number, what its bits would be as a number is not used.
+pub struct First {
+    pub a: f64,
+    pub b: f64,
+    pub c: f64,
+    pub d: f64,
+    pub e: f64,
+    pub f: f64,
+    pub g: f64,
+    pub h: f64,
+    pub i: f64,
+}
+
+// How many inputs a call has; 0 of a number that no call has.
+pub fn arity(call: u64) -> usize
+    ensures { λ r. ⌜ r ≤ 18 ⌝ }
+{
+    match call {
+        7 => 1,
+        2 => 4,
+        1 | 0xc | 0xd | 0x17 | 0x18 => 6,
+        5 | 6 | 9 | 0xe => 8,
+        3 | 4 | 8 | 0xf | 0x16 | 0x19 => 9,
+        0xa | 0xb | 0x14 | 0x15 => 10,
+        0x10 => 13,
+        0x13 => 15,
+        0x11 | 0x12 => 18,
+        _ => 0,
+    }
+}
+
+// How many numbers a call answers that lends no room.
+fn outputs(call: u64) -> usize {
+    match call {
+        7 | 8 | 0xa..=0xc | 0x15 => 1,
+        0x14 | 0x18 => 3,
+        0x16 | 0x17 => 6,
+        0x19 => 8,
+        _ => 2,
+    }
+}
+
+// Where a call is refused nothing is told.
+pub fn given(refusal: u32, len: usize) -> Told {
+    if refusal == 0 {
+        return Told {
+            refusal: 0,
+            len: len,
+        };
+    }
+    Told {
+        refusal: refusal as u64,
+        len: 0,
+    }
+}
+
+pub fn number(words: &[u64; 128], input: usize) -> f64
+    requires { ⌜ input < 36 ⌝ }
+{
+    scalar::from_bits(words[FIRST + input])
+}
+
+pub fn first_inputs(words: &[u64; 128]) -> First {
+    First {
+        a: number(words, 0),
+        b: number(words, 1),
+        c: number(words, 2),
+        d: number(words, 3),
+        e: number(words, 4),
+        f: number(words, 5),
+        g: number(words, 6),
+        h: number(words, 7),
+        i: number(words, 8),
+    }
+}
+
+// The inputs from one on, the seven numbers of an arc or the twelve of a room that is written.
+pub fn arc(words: &[u64; 128], from: usize) -> [f64; 12]
+    requires { ⌜ from < 18 ⌝ }
+    ensures { λ r. ⌜ 12 ≡ length r ⌝ }
+{
+    let mut x = [0.0; 12];
+    for i in 0..12usize {
+        x[i] = number(words, from + i);
+    }
+    x
+}
+
+// A mark, a flag or the depth. None that is stored is above 32 bits.
+pub fn whole(words: &[u64; 128], input: usize) -> u32
+    requires { ⌜ input < 18 ⌝ }
+{
+    let w = words[FIRST + input];
+    if w <= 0xffff_ffff {
+        return w as u32;
+    }
+    0xffff_ffff
+}
+
+// A length, a count or an index.
+pub fn size(words: &[u64; 128], input: usize) -> usize
+    requires { ⌜ input < 18 ⌝ }
+{
+    words[FIRST + input] as usize
+}
+
+fn ask(words: &[u64; 128], out: &mut [f64]) -> u32 {
+    let call = words[0];
+    match call {
+        3..=6 | 8..=0xb | 0x14 | 0x15 => by_arc::ask(words, out),
+        _ => by_numbers::ask(words, out),
+    }
+}
+
+// No answer in numbers has more than eight.
+fn numbers_answer(words: &[u64; 128], out: &mut [u64; 128]) -> Told {
+    let mut numbers = [UNWRITTEN; 8];
+    let refusal = ask(words, &mut numbers);
+    words::put_numbers(&numbers, 8, out, 0);
+    given(refusal, outputs(words[0]))
+}
+
+// The answer's words go to `out`.
+pub fn answer(words: &[u64; 128], out: &mut [u64; 128]) -> Told {
+    let call = words[0];
+    match call {
+        0xf..=0x13 => crossings::answer(words, out),
+        _ => numbers_answer(words, out),
+    }
+}
