@@ -1,7 +1,7 @@
 use Rattle.digits.proofs.Spliced.{put-one}
 use borrow.Author.Needs.{needs}
-use Rattle.desk.proofs.printing.put_byte.Statement.{statement}
-use Rattle.desk.proofs.printing.put_byte.Tie as tie
+use Rattle.printing.proofs.put_byte.Statement.{statement}
+use Rattle.printing.proofs.put_byte.Tie as tie
 
 slice-write-out : tie.Need-slice-write-out
 slice-write-out c = search needs

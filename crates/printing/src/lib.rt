@@ -3,7 +3,7 @@ ghost use mathlib.Core.List.{[], _∷_};
 ghost use Prim.Native.Nat.{_+_, _<_, _≤_};
 ghost use lib.ListN.{length};
 ghost use Rattle.digits.specs.Spliced.{Put};
-ghost use Rattle.desk.specs.Printed.{count, number, head, numbers, refusedLine, hitLine, endLine};
+ghost use Rattle.printing.specs.Printed.{count, number, head, numbers, refusedLine, hitLine, endLine};
 use hits::CurveHit;
 use hunt::Tally;
 

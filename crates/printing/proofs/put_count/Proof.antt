@@ -1,9 +1,9 @@
 use native.Mathlib.Omega.{arith}
 use Rattle.digits.proofs.Spliced.{put-then}
-use Rattle.desk.specs.Printed.{count}
+use Rattle.printing.specs.Printed.{count}
 use borrow.Author.Needs.{needs}
-use Rattle.desk.proofs.printing.put_count.Statement.{statement}
-use Rattle.desk.proofs.printing.put_count.Tie as tie
+use Rattle.printing.proofs.put_count.Statement.{statement}
+use Rattle.printing.proofs.put_count.Tie as tie
 
 put-byte-requires : tie.Need-put-byte-requires
 put-byte-requires c κs = search needs

@@ -7,7 +7,7 @@ use lib.Ieee.{Float, binary64, toBits}
 use Rattle.hits.specs.declared.CurveHit.{CurveHit}
 use Rattle.digits.specs.Spliced.{Put}
 use Rattle.digits.proofs.Digits.{hex-length, decimals-length}
-use Rattle.desk.specs.Printed.{count, number, head, numbers, hitLine, hitLines}
+use Rattle.printing.specs.Printed.{count, number, head, numbers, hitLine, hitLines}
 
 pub within : {l : List ℕ} {at : ℕ} {bytes : List ℕ} {next : ℕ} {m : List ℕ} {k : ℕ} → Put l at bytes next m → length bytes ≤ k → next ≤ at + k
 within p h = omega arith

@@ -1,10 +1,10 @@
 use native.Mathlib.Omega.{arith}
 use Rattle.digits.proofs.Spliced.{put-then}
-use Rattle.desk.proofs.Lines.{within, number-length}
-use Rattle.desk.specs.Printed.{numbers}
+use Rattle.printing.proofs.Lines.{within, number-length}
+use Rattle.printing.specs.Printed.{numbers}
 use borrow.Author.Needs.{needs}
-use Rattle.desk.proofs.printing.put_numbers.Statement.{statement}
-use Rattle.desk.proofs.printing.put_numbers.Tie as tie
+use Rattle.printing.proofs.put_numbers.Statement.{statement}
+use Rattle.printing.proofs.put_numbers.Tie as tie
 
 put-number-requires : tie.Need-put-number-requires
 put-number-requires c κs = search needs

@@ -1,10 +1,10 @@
 use native.Mathlib.Omega.{arith}
 use Rattle.digits.proofs.Spliced.{put-then}
-use Rattle.desk.specs.Printed.{refusedLine}
-use Rattle.desk.proofs.Lines.{within, head-length, count-length}
+use Rattle.printing.specs.Printed.{refusedLine}
+use Rattle.printing.proofs.Lines.{within, head-length, count-length}
 use borrow.Author.Needs.{needs}
-use Rattle.desk.proofs.printing.refused_line.Statement.{statement}
-use Rattle.desk.proofs.printing.refused_line.Tie as tie
+use Rattle.printing.proofs.refused_line.Statement.{statement}
+use Rattle.printing.proofs.refused_line.Tie as tie
 
 put-head-requires : tie.Need-put-head-requires
 put-head-requires c κs = search needs
