@@ -1,5 +1,5 @@
 -- The steps of the series in whole numbers: how near `rough` is to the product, and the sizes that keep every number below 2 ^ 64. Assumes nothing.
-use mathlib.Core.Path.{_≡_, _∙_, ap}
+use mathlib.Core.Path.{_≡_, refl, _∙_, ap}
 use mathlib.Core.Bool.{Bool, true, false}
 use Prim.Native.Nat.{ℕ, _+_, _*_, _/_, _%_, _≤_}
 use native.Mathlib.Nat.{mul-add, add-mul, mul-assoc, mul-left-comm, mul-le-mul, div-add-mod'}
@@ -67,7 +67,22 @@ last-small : (c q h : ℕ) → c ≤ 2305843009213693952 → Number q → Rest h
 unfolding lastStep
 last-small c q h hc hq hh = omega (arith, high-small q h hq hh)
 
--- ---- the series, at most 1 + 7 / 64
+-- ---- the series, step by step
+pub series-is
+    : (r : Row) (h : ℕ) {q8 q7 q6 q5 q4 q3 q2 q1 : ℕ}
+    → q8 ≡ roughStep (r .a8) (r .a9) h
+    → q7 ≡ roughStep (r .a7) q8 h
+    → q6 ≡ roughStep (r .a6) q7 h
+    → q5 ≡ roughStep (r .a5) q6 h
+    → q4 ≡ roughStep (r .a4) q5 h
+    → q3 ≡ fineStep (r .a3) q4 h
+    → q2 ≡ fineStep (r .a2) q3 h
+    → q1 ≡ fineStep (r .a1) q2 h
+    → lastStep (r .a0) q1 h ≡ seriesAt r h
+unfolding seriesAt upperSteps
+series-is r h e8 e7 e6 e5 e4 e3 e2 e1 = rw (e1, e2, e3, e4, e5, e6, e7, e8) refl
+
+-- at most 1 + 7 / 64
 pub series-small : (r : Row) (h : ℕ) → Fit r → Rest h → seriesAt r h ≤ 2558044588346441728
 unfolding seriesAt upperSteps
 series-small r h f i =

@@ -1,6 +1,5 @@
 -- What is proved of the definitions in specs/.
 pub mod Tables
-pub mod Lines
 pub mod Hits
 pub mod Needs
 pub mod Told

@@ -9,7 +9,7 @@ use lib.ListN.{length}
 use lib.Pow.{pow-mono}
 use Rattle.arc.specs.declared.Arc.{Arc}
 use Rattle.arc.specs.Frame.{arcRadii}
-use Rattle.hunt.specs.Frame.{frame}
+use Rattle.one_bracket.specs.Frame.{frame}
 use Rattle.hunt.specs.Cells.{cells, span}
 use Rattle.hunt.specs.Hunt.{early, hunted}
 use Rattle.laws.specs.Part.{part}

@@ -19,7 +19,7 @@ use Rattle.desk.specs.declared.Table.{Table}
 use Rattle.desk.specs.declared.Answered.{Answered}
 use Rattle.desk.specs.Table.{recordAt, stored}
 use Rattle.desk.specs.Refused.{recordRefusal, queryRefusal}
-use Rattle.desk.specs.Printed.{refusedLine}
+use Rattle.printing.specs.Printed.{refusedLine}
 use Rattle.desk.specs.Reply.{nothing, crossed, unless, stays, shown, tableAfter}
 use Rattle.desk.specs.Answer.{After, short, untouched, answer, Shows}
 

@@ -1,7 +1,6 @@
 -- What the contracts of the crate cite.
 pub mod Table
 pub mod Refused
-pub mod Printed
 pub mod Hits
 pub mod Reply
 pub mod Answer

@@ -13,7 +13,7 @@ use Rattle.lines.specs.declared.Line.the-variants.{Segment, Bow, Query, Malform
 use Rattle.desk.specs.declared.Table.{Table}
 use Rattle.desk.specs.Table.{recordAt, stored}
 use Rattle.desk.specs.Refused.{refusal}
-use Rattle.desk.specs.Printed.{refusedLine, hitLines, endLine}
+use Rattle.printing.specs.Printed.{refusedLine, hitLines, endLine}
 
 -- the bytes to print, and the hits that are left in the room
 pub record Shown : Type 0 where

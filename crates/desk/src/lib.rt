@@ -4,7 +4,6 @@ ghost use Rattle.desk.specs.Table.{empty};
 ghost use Rattle.desk.specs.Answer.{answer};
 
 mod crossings;
-mod printing;
 mod records;
 
 use lines::Line;

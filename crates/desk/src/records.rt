@@ -15,7 +15,6 @@ use crate::Answered;
 use crate::MOST;
 use crate::Place;
 use crate::Table;
-use crate::printing;
 use checks::Faults;
 use queries::Curve;
 

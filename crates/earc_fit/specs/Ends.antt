@@ -11,7 +11,7 @@ use Rattle.arc.specs.declared.Point.{Point}
 use Rattle.arc.specs.declared.Radii.{Radii}
 use Rattle.arc.specs.Ellipse.{ellipseTangent}
 use Rattle.earc_fit.specs.declared.Fitted.{Fitted}
-use Rattle.earc_fit.specs.declared.axes.Squares.{Squares}
+use Rattle.conics.specs.declared.axes.Squares.{Squares}
 
 -- sr and cr are the rotation's sine and cosine
 unfoldable pub parametric : Point → Point → Radii → Float → Float → Float

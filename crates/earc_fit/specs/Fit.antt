@@ -8,14 +8,14 @@ use Rattle.laws.specs.Size.{abs}
 use Rattle.arc.specs.declared.Point.{Point}
 use Rattle.earc_fit.specs.declared.Fit.{Fit}
 use Rattle.earc_fit.specs.declared.Fit.the-variants.{Is, Degenerate}
-use Rattle.earc_fit.specs.declared.conic.Conic.{Conic}
+use Rattle.conics.specs.declared.conic.Conic.{Conic}
 use Rattle.root.specs.Norm.{norm}
-use Rattle.earc_fit.specs.Lines.{_!_, lineThrough, normalized, lineValue}
-use Rattle.earc_fit.specs.Lines as lines
+use Rattle.conics.specs.Lines.{_!_, lineThrough, normalized, lineValue}
+use Rattle.conics.specs.Lines as lines
 use Rattle.earc_fit.specs.Target.{bulgeSign, targetMid}
-use Rattle.earc_fit.specs.Conic.{conicMatrix}
-use Rattle.earc_fit.specs.Conic as pencil
-use Rattle.earc_fit.specs.Axes.{determinant, centerOf, eigenvalues, eitherFlat, radiiSquared, eitherUnreal, rotation}
+use Rattle.conics.specs.Conic.{conicMatrix}
+use Rattle.conics.specs.Conic as pencil
+use Rattle.conics.specs.Axes.{determinant, centerOf, eigenvalues, eitherFlat, radiiSquared, eitherUnreal, rotation}
 use Rattle.earc_fit.specs.Ends.{fittedArc}
 
 -- the arc on the conic q from p1, where it runs along t1, to p2

@@ -1,14 +1,14 @@
 // The conic fit (001): the arc of an ellipse through two points, with a direction at each and a bulge.
-mod axes;
-mod conic;
 mod ends;
-mod lines;
 mod target;
 
 ghost use mathlib.Core.Path.{_≡_};
 ghost use Rattle.earc_fit.specs.Fit.{conicArc, fitEarcTangent};
 use arc::Point;
-use conic::Conic;
+use conics::axes;
+use conics::conic;
+use conics::conic::Conic;
+use conics::lines;
 
 pub struct Fitted {
     pub center: Point,

@@ -8,9 +8,9 @@ use lib.Ieee.{Float}
 use Rattle.laws.specs.Part.{part}
 use Rattle.arc.specs.declared.Arc.{Arc}
 use Rattle.arc.specs.Frame.{arcRadii}
-use Rattle.hunt.specs.declared.Frame.{Frame}
+use Rattle.one_bracket.specs.declared.Frame.{Frame}
 use Rattle.hunt.specs.declared.Tally.{Tally}
-use Rattle.hunt.specs.Frame.{frame}
+use Rattle.one_bracket.specs.Frame.{frame}
 use Rattle.hunt.specs.Cells.{cells, span, firstCells, bracketed}
 use Rattle.hunt.specs.Outcome.{none, scanned, fates}
 use Rattle.hunt.specs.Hunt.{early, hunted, Hunted}

@@ -1,6 +1,3 @@
 -- The laws that the proofs of the functions share, and what is proved of the definitions.
-pub mod Frames
-pub mod Halvings
-pub mod Rooms
 pub mod Outcomes
 pub mod Hunts

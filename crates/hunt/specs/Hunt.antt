@@ -13,7 +13,7 @@ use Rattle.arc.specs.declared.Radii.{Radii}
 use Rattle.arc.specs.Frame.{arcRadii}
 use Rattle.hits.specs.Hit.{written}
 use Rattle.hunt.specs.declared.Tally.{Tally}
-use Rattle.hunt.specs.Frame.{frame}
+use Rattle.one_bracket.specs.Frame.{frame}
 use Rattle.hunt.specs.Cells.{cells, span}
 use Rattle.hunt.specs.Outcome.{Outcome, tally, none, scanned}
 

@@ -7,15 +7,15 @@ use mathlib.Core.List.{List, [], _∷_, _++_}
 use lib.ListN.{length}
 use lib.Ieee.{Float}
 use Rattle.hits.specs.declared.CurveHit.{CurveHit}
-use Rattle.hunt.specs.declared.Frame.{Frame}
-use Rattle.hunt.specs.declared.Cell.{Cell}
-use Rattle.hunt.specs.declared.Fate.{Fate}
-use Rattle.hunt.specs.declared.Fate.the-variants.{OutsideA, OutsideB, Double, Hit}
+use Rattle.one_bracket.specs.declared.Frame.{Frame}
+use Rattle.one_bracket.specs.declared.Cell.{Cell}
+use Rattle.one_bracket.specs.declared.Fate.{Fate}
+use Rattle.one_bracket.specs.declared.Fate.the-variants.{OutsideA, OutsideB, Double, Hit}
 use Rattle.hunt.specs.declared.Tally.{Tally}
-use Rattle.hunt.specs.Frame.{value}
+use Rattle.one_bracket.specs.Frame.{value}
 use Rattle.hunt.specs.Cells.{brackets, firstCells}
-use Rattle.hunt.specs.Narrow.{opened, middles, last}
-use Rattle.hunt.specs.Fate.{fate}
+use Rattle.one_bracket.specs.Narrow.{opened, middles, last}
+use Rattle.one_bracket.specs.Fate.{fate}
 
 pub record Outcome : Type 0 where
   pub hits : List CurveHit

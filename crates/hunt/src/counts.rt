@@ -2,8 +2,8 @@
 ghost use mathlib.Core.Path.{_≡_};
 ghost use Prim.Native.Nat.{_<_, _+_, _^_};
 ghost use Rattle.hunt.specs.Outcome.{Outcome, Small, tally, none, settle, further};
-use crate::Fate;
 use crate::Tally;
+use one_bracket::Fate;
 
 // Nothing is sampled.
 pub fn none() -> Tally

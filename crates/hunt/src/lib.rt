@@ -1,9 +1,7 @@
 // The sampled hunt (000, `intersect_arcs` where an ellipse takes part): one pass over the cells of a's span.
 mod cells;
 mod counts;
-mod narrowing;
 mod settling;
-mod values;
 
 ghost use mathlib.Core.Path.{_≡_};
 ghost use mathlib.Core.List.{List};
@@ -15,46 +13,13 @@ ghost use Rattle.hunt.specs.Cells.{cells};
 ghost use Rattle.hunt.specs.Outcome.{Outcome, Small, tally, visit, scanned};
 ghost use Rattle.hunt.specs.Hunt.{early, Hunted};
 use arc::Arc;
-use arc::Radii;
 pub use cells::bracket;
 pub use cells::sample;
-use hits::CurveHit;
-pub use narrowing::narrow;
-use sine::SinCos;
-pub use values::framed;
-pub use values::value;
-
-// The two arcs with what one evaluation needs of them, worked out once: the sine and the cosine of both rotations, b's effective radii.
-pub struct Frame {
-    pub a: Arc,
-    pub b: Arc,
-    pub turn_a: SinCos,
-    pub turn_b: SinCos,
-    pub radii: Radii,
-}
-
-// A cell of a's span: its two angles and the values there.
-pub struct Cell {
-    pub lo: f64,
-    pub hi: f64,
-    pub g_lo: f64,
-    pub g_hi: f64,
-}
-
-// A bracket that is being narrowed: its two angles and the value at the first.
-pub struct Stretch {
-    pub lo: f64,
-    pub hi: f64,
-    pub g_lo: f64,
-}
-
-// What becomes of a bracket.
-pub enum Fate {
-    OutsideA,
-    OutsideB,
-    Double,
-    Hit(CurveHit),
-}
+use one_bracket::Cell;
+use one_bracket::Frame;
+use one_bracket::framed;
+use one_bracket::narrow;
+use one_bracket::value;
 
 // What a hunt counts. The four fates, hits among them, add up to the brackets.
 pub struct Tally {

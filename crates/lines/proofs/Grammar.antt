@@ -10,26 +10,27 @@ use borrow.Author.Tests.{eq-eqb, ne-eqb}
 use Rattle.arc.specs.declared.Arc.{Arc}
 use Rattle.lines.specs.declared.Line.{Line}
 use Rattle.lines.specs.declared.Line.the-variants.{Segment, Bow, Query, Malformed}
-use Rattle.lines.specs.declared.Field.{Field}
-use Rattle.lines.specs.declared.Field.the-variants as field
-use Rattle.lines.specs.declared.Numbered.{Numbered}
-use Rattle.lines.specs.declared.Numbered.the-variants as numbered
-use Rattle.lines.specs.declared.Four.{Four}
-use Rattle.lines.specs.declared.Four.the-variants as four
-use Rattle.lines.specs.declared.Three.{Three}
-use Rattle.lines.specs.declared.Three.the-variants as three
-use Rattle.lines.specs.declared.Marks.{Marks}
-use Rattle.lines.specs.declared.Marks.the-variants as marks
-use Rattle.lines.specs.Grammar.{tabbed, SaysSegment, SaysBow, SaysQuery, Form, Says}
-use Rattle.lines.specs.Field.{digitAt, recordAt}
-use Rattle.lines.specs.Fields.{fourAt, threeAt, marksAt}
+use Rattle.line_fields.specs.declared.Field.{Field}
+use Rattle.line_fields.specs.declared.Field.the-variants as field
+use Rattle.line_fields.specs.declared.Numbered.{Numbered}
+use Rattle.line_fields.specs.declared.Numbered.the-variants as numbered
+use Rattle.line_fields.specs.declared.Four.{Four}
+use Rattle.line_fields.specs.declared.Four.the-variants as four
+use Rattle.line_fields.specs.declared.Three.{Three}
+use Rattle.line_fields.specs.declared.Three.the-variants as three
+use Rattle.line_fields.specs.declared.Marks.{Marks}
+use Rattle.line_fields.specs.declared.Marks.the-variants as marks
+use Rattle.line_fields.specs.Text.{tabbed}
+use Rattle.lines.specs.Grammar.{SaysSegment, SaysBow, SaysQuery, Form, Says}
+use Rattle.line_fields.specs.Field.{digitAt, recordAt}
+use Rattle.line_fields.specs.Fields.{fourAt, threeAt, marksAt}
 use Rattle.lines.specs.Read.{segmentOf, segment, bowOf, bow, queryEnd, querySecond, queryFirst, query, readLine}
 use Rattle.lines.proofs.FirstByte.{read-long, read-segment, read-bow, read-query, read-other}
-use Rattle.lines.proofs.Taken.{digit-taken}
-use Rattle.lines.proofs.Hex.{hex-length}
-use Rattle.lines.proofs.Texts.{drop-byte, digit-text, record-text}
-use Rattle.lines.proofs.Groups.{four-text, three-text, marks-text}
-use Rattle.lines.proofs.Readings.{digit-read, record-read, four-read, three-read, marks-read}
+use Rattle.line_fields.proofs.Taken.{digit-taken}
+use Rattle.line_fields.proofs.Hex.{hex-length}
+use Rattle.line_fields.proofs.Texts.{drop-byte, digit-text, record-text}
+use Rattle.line_fields.proofs.Groups.{four-text, three-text, marks-text}
+use Rattle.line_fields.proofs.Readings.{digit-read, record-read, four-read, three-read, marks-read}
 
 abbrev Taken : Line → Type 0
 Taken l = l ≡ Malformed → ⊥

@@ -7,18 +7,18 @@ use lib.Dec.{ltb, eqb}
 use lib.ListN.{length, getD}
 use Rattle.lines.specs.declared.Line.{Line}
 use Rattle.lines.specs.declared.Line.the-variants.{Segment, Bow, Query, Malformed}
-use Rattle.lines.specs.declared.Field.{Field}
-use Rattle.lines.specs.declared.Field.the-variants as field
-use Rattle.lines.specs.declared.Numbered.{Numbered}
-use Rattle.lines.specs.declared.Numbered.the-variants as numbered
-use Rattle.lines.specs.declared.Four.{Four}
-use Rattle.lines.specs.declared.Four.the-variants as four
-use Rattle.lines.specs.declared.Three.{Three}
-use Rattle.lines.specs.declared.Three.the-variants as three
-use Rattle.lines.specs.declared.Marks.{Marks}
-use Rattle.lines.specs.declared.Marks.the-variants as marks
-use Rattle.lines.specs.Field.{digitAt, recordAt}
-use Rattle.lines.specs.Fields.{fourAt, threeAt, marksAt}
+use Rattle.line_fields.specs.declared.Field.{Field}
+use Rattle.line_fields.specs.declared.Field.the-variants as field
+use Rattle.line_fields.specs.declared.Numbered.{Numbered}
+use Rattle.line_fields.specs.declared.Numbered.the-variants as numbered
+use Rattle.line_fields.specs.declared.Four.{Four}
+use Rattle.line_fields.specs.declared.Four.the-variants as four
+use Rattle.line_fields.specs.declared.Three.{Three}
+use Rattle.line_fields.specs.declared.Three.the-variants as three
+use Rattle.line_fields.specs.declared.Marks.{Marks}
+use Rattle.line_fields.specs.declared.Marks.the-variants as marks
+use Rattle.line_fields.specs.Field.{digitAt, recordAt}
+use Rattle.line_fields.specs.Fields.{fourAt, threeAt, marksAt}
 
 abbrev pub segmentOf : Four → Line
 segmentOf four.None = Malformed

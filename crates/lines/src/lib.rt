@@ -1,13 +1,17 @@
 // One line of input, read.
-mod bytes;
-mod fields;
-
 ghost use mathlib.Core.Path.{_≡_};
 ghost use Prim.Native.Nat.{_≤_};
 ghost use lib.ListN.{length};
 ghost use Rattle.lines.specs.Read.{segment, bow, query, readLine};
 use arc::Arc;
 use arc::Point;
+use line_fields::Field;
+use line_fields::Four;
+use line_fields::Marks;
+use line_fields::Numbered;
+use line_fields::Three;
+use line_fields::bytes;
+use line_fields::fields;
 
 // A line that is taken by its form. A record number above 64, however many digits it has, is held as 65.
 pub enum Line {
@@ -15,33 +19,6 @@ pub enum Line {
     Bow(Arc),
     Query(usize, usize, u32),
     Malformed,
-}
-
-// What a field of 16 hex digits or of one digit holds.
-enum Field {
-    Of(u64),
-    None,
-}
-
-// A record number and the place after its last digit.
-enum Numbered {
-    Of(usize, usize),
-    None,
-}
-
-enum Four {
-    Of(f64, f64, f64, f64),
-    None,
-}
-
-enum Three {
-    Of(f64, f64, f64),
-    None,
-}
-
-enum Marks {
-    Of(bool, bool, bool),
-    None,
 }
 
 // A letter and four numbers, each of 16 bytes after a tab.

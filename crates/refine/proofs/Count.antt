@@ -9,8 +9,8 @@ use native.Mathlib.Omega.{arith}
 use lib.Dec.{T}
 use lib.Ieee.Bits.{is-true}
 use lib.Ieee.{Float}
-use Rattle.hunt.specs.declared.Frame.{Frame}
-use Rattle.hunt.specs.declared.Cell.{Cell}
+use Rattle.one_bracket.specs.declared.Frame.{Frame}
+use Rattle.one_bracket.specs.declared.Cell.{Cell}
 use Rattle.hunt.specs.Cells.{brackets, cell, firstCells, bracketed}
 use Rattle.refine.proofs.Run.{Found}
 

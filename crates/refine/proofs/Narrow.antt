@@ -13,8 +13,8 @@ use Rattle.laws.specs.Tame.{tame}
 use Rattle.laws.proofs.Order.{le-trans, le-refl, finite-number}
 use Rattle.laws.proofs.Doubling.{roomy-between, roomy-finite}
 use Rattle.laws.proofs.Middle.{middle-between, middle-between-turned, middle-fits}
-use Rattle.hunt.specs.declared.Stretch.{Stretch}
-use Rattle.hunt.specs.Narrow.{middleOf, halved, narrowed}
+use Rattle.one_bracket.specs.declared.Stretch.{Stretch}
+use Rattle.one_bracket.specs.Narrow.{middleOf, halved, narrowed}
 use Rattle.refine.specs.Promise.{along, straddles, Kept}
 use Rattle.refine.proofs.Three.{straddles-sign, product-sign}
 

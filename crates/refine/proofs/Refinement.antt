@@ -21,9 +21,9 @@ use Rattle.laws.proofs.Doubling.{roomy-finite}
 use Rattle.scalar.specs.Angles.{tau}
 use Rattle.arc.specs.declared.Arc.{Arc}
 use Rattle.arc.specs.Frame.{arcRadii}
-use Rattle.hunt.specs.Frame.{frame}
+use Rattle.one_bracket.specs.Frame.{frame}
 use Rattle.hunt.specs.Cells.{cells, span, cell, brackets, bracketed, firstCells}
-use Rattle.hunt.specs.Narrow.{opened, narrowed}
+use Rattle.one_bracket.specs.Narrow.{opened, narrowed}
 use Rattle.hunt.specs.Hunt.{early, hunted}
 use Rattle.hunt.proofs.Hunts.{hunted-early, hunted-brackets}
 use Rattle.refine.specs.Levels.{sampleAt, cellAt, valueOf, ends}

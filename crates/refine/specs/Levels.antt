@@ -5,8 +5,8 @@ use lib.Ieee.{Float}
 use Rattle.laws.specs.Part.{part}
 use Rattle.arc.specs.declared.Arc.{Arc}
 use Rattle.arc.specs.Frame.{arcRadii}
-use Rattle.hunt.specs.declared.Cell.{Cell}
-use Rattle.hunt.specs.Frame.{frame, value}
+use Rattle.one_bracket.specs.declared.Cell.{Cell}
+use Rattle.one_bracket.specs.Frame.{frame, value}
 use Rattle.hunt.specs.Cells.{cells, span, sample, cell}
 use Rattle.hunt.specs.Hunt.{early}
 

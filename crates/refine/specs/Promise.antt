@@ -9,9 +9,9 @@ use Rattle.laws.specs.Rounded.{_⊗_}
 use Rattle.laws.specs.Literal.{zero}
 use Rattle.laws.specs.Tame.{tame}
 use Rattle.arc.specs.declared.Arc.{Arc}
-use Rattle.hunt.specs.declared.Stretch.{Stretch}
+use Rattle.one_bracket.specs.declared.Stretch.{Stretch}
 use Rattle.hunt.specs.Cells.{cells, span, brackets}
-use Rattle.hunt.specs.Narrow.{opened, middleOf, narrowed}
+use Rattle.one_bracket.specs.Narrow.{opened, middleOf, narrowed}
 use Rattle.hunt.specs.Hunt.{hunted}
 use Rattle.refine.specs.Levels.{sampleAt, cellAt, valueOf, ends}
 

@@ -1,10 +1,12 @@
 -- `arctan::arc` meets its contract. Assumes nothing.
-use mathlib.Core.Path.{refl, sym, subst}
-use Prim.Native.Nat.{ℕ, _%_}
+use mathlib.Core.Path.{_≡_, sym, _∙_, ap, subst}
+use Prim.Native.Nat.{ℕ, _/_, _%_, _≤_}
 use native.Mathlib.Omega.{arith}
+use lib.Ieee.{Float}
 use Rattle.arctan.specs.declared.table.Row.{Row}
 use Rattle.arctan.specs.Sizes.{Fit, Rest}
-use Rattle.arctan.specs.Rule.{arcOf, unitsAt}
+use Rattle.arctan.specs.Rows.{rowAt}
+use Rattle.arctan.specs.Rule.{seriesAt, placeOf, unitsAt, arcOf}
 use Rattle.arctan.proofs.Fit.{row-at-fit, units-small}
 use borrow.Author.Needs.{needs}
 use Rattle.arctan.proofs.arc.Statement.{statement}
@@ -13,6 +15,14 @@ use Rattle.arctan.proofs.arc.Tie as tie
 rest-of : (n : ℕ) → Rest (n % 144115188075855872)
 rest-of n = omega arith
 
+units-are : (n q : ℕ) (r : Row) → q ≡ seriesAt r (n % 144115188075855872) → r ≡ rowAt (n / 144115188075855872) → q ≡ unitsAt n
+unfolding unitsAt
+units-are n q r e f = e ∙ ap (λ (s : Row). seriesAt s (n % 144115188075855872)) f
+
+arc-is : (u : Float) (n : ℕ) → n ≡ placeOf u → unitsAt n ≡ arcOf u
+unfolding arcOf
+arc-is u n e = ap unitsAt e
+
 place-requires : tie.Need-place-requires
 place-requires c κs = search needs
 
@@ -20,15 +30,15 @@ look-requires : tie.Need-look-requires
 look-requires c κs = search needs
 
 series-requires : tie.Need-series-requires
-series-requires c κs = (subst (λ (r : Row). Fit r) (sym (c .look .ensures)) (row-at-fit _), rest-of _)
+series-requires c κs =
+    let n = c .before .place .result in
+    (subst (λ (r : Row). Fit r) (sym (c .look .ensures)) (row-at-fit (n / 144115188075855872)), rest-of n)
 
 returns : tie.Need-returns
-unfolding arcOf unitsAt
 returns c =
-    let e = c .series .ensures in
-    let f = c .before .look .ensures in
-    let g = c .before .before .place .ensures in
-    (rw (e, f, g) refl, rw (e, f) (units-small (c .before .before .place .result)))
+    let n = c .before .before .place .result in
+    let e = units-are n (c .series .result) (c .before .look .result) (c .series .ensures) (c .before .look .ensures) in
+    (e ∙ arc-is (c .before .before .before .args .u) n (c .before .before .place .ensures), subst (λ (q : ℕ). q ≤ 2558044588346441728) (sym e) (units-small n))
 
 pub arc-spec : {M : Type 1} → statement M
 arc-spec = tie.close (tie.spec place-requires look-requires series-requires returns)

@@ -1,13 +1,15 @@
 -- `arctan::atan2` meets its contract. Assumes nothing.
-use mathlib.Core.Path.{_≡_, refl, sym, subst}
+use mathlib.Core.Path.{_≡_, refl, sym, _∙_, subst}
 use mathlib.Core.Bool.{Bool, true, false, not, _&&_, true≢false}
 use lib.Dec.{T}
-use lib.Ieee.{binary64, div, fits, lt}
+use lib.Ieee.{Float, binary64, div, fits, lt, le}
+use Rattle.laws.proofs.Largest.{largest}
 use Rattle.arctan.specs.Sizes.{InUnit}
-use Rattle.arctan.specs.Rule.{zero64, tiny, steepOf, ratio}
+use Rattle.arctan.specs.Rule.{zero64, tiny, steepOf, smaller, larger, ratio, angleOf}
 use Rattle.arctan.proofs.Tests.{tested}
 use Rattle.arctan.proofs.Ratio.{ratio-unit}
 use Rattle.arctan.proofs.Cases.{by-angle}
+use Rattle.arctan.proofs.Sized.{steep-is, smaller-is, larger-is, quotient-is, test-is, angle-at}
 use borrow.Author.Needs.{needs}
 use Rattle.arctan.proofs.atan2.Statement.{statement}
 use Rattle.arctan.proofs.atan2.Tie as tie
@@ -28,6 +30,44 @@ never true true c e = e
 never true false c e = refl
 never false b c e = refl
 
+-- ---- the two choices by the rule's names
+abbrev y : tie.After-pick2 → Float
+y c = c .before .before .before .before .args .y
+
+abbrev x : tie.After-pick2 → Float
+x c = c .before .before .before .before .args .x
+
+abbrev a : tie.After-pick2 → Float
+a c = c .before .before .size2 .result
+
+abbrev b : tie.After-pick2 → Float
+b c = c .before .before .before .size .result
+
+abbrev low : tie.After-pick2 → Float
+low c = c .before .pick .result
+
+abbrev high : tie.After-pick2 → Float
+high c = c .pick2 .result
+
+steep : (c : tie.After-pick2) → lt (a c) (b c) ≡ steepOf (y c) (x c)
+steep c = steep-is (y c) (x c) (a c) (b c) (c .before .before .size2 .ensures) (c .before .before .before .size .ensures)
+
+least : (c : tie.After-pick2) → low c ≡ smaller (y c) (x c)
+least c = c .before .pick .ensures ∙ smaller-is (y c) (x c) (a c) (b c) (c .before .before .size2 .ensures) (c .before .before .before .size .ensures)
+
+most : (c : tie.After-pick2) → high c ≡ larger (y c) (x c)
+most c = c .pick2 .ensures ∙ larger-is (y c) (x c) (a c) (b c) (c .before .before .size2 .ensures) (c .before .before .before .size .ensures)
+
+quotient : (c : tie.After-pick2) → div binary64 (low c) (high c) ≡ ratio (y c) (x c)
+quotient c = quotient-is (y c) (x c) (low c) (high c) (least c) (most c)
+
+-- the one test that nearly always holds
+taken : (c : tie.Then1) → (tested (y (c .before)) (x (c .before)) ≡ true) × (lt (ratio (y (c .before)) (x (c .before))) tiny ≡ false)
+taken c =
+    let d = c .before in
+    let h = both (lt zero64 (low d) && le (high d) largest) (lt (div binary64 (low d) (high d)) tiny) (c .if1 .taken) in
+    (sym (test-is (y d) (x d) (low d) (high d) (least d) (most d)) ∙ h .0, subst (λ (u : Float). lt u tiny ≡ false) (quotient d) (h .1))
+
 size-requires : tie.Need-size-requires
 size-requires c κs = search needs
 
@@ -41,29 +81,18 @@ pick-requires-2 : tie.Need-pick-requires-2
 pick-requires-2 c κs = search needs
 
 angle-requires : tie.Need-angle-requires
-unfolding ratio
-angle-requires c κs =
-    let start = c .before .before .before .before .before in
-    let y = start .args .y in
-    let x = start .args .x in
-    let all : (tested y x && not (lt (ratio y x) tiny)) ≡ true = cc in
-    let t = both (tested y x) (lt (ratio y x) tiny) all .0 in
-    let e : ratio y x ≡ div binary64 (c .before .before .pick .result) (c .before .pick2 .result) = cc in
-    subst InUnit e (ratio-unit y x t)
+angle-requires c κs = subst InUnit (sym (quotient (c .before))) (ratio-unit (y (c .before)) (x (c .before)) (taken c .0))
 
 returns : tie.Need-returns
-unfolding ratio
 returns c =
-    let start = c .before .before .before .before .before .before in
-    let y = start .args .y in
-    let x = start .args .x in
-    let all : (tested y x && not (lt (ratio y x) tiny)) ≡ true = cc in
-    let h = both (tested y x) (lt (ratio y x) tiny) all in
-    let q = never (not (steepOf y x)) (lt zero64 x) (lt (ratio y x) tiny) (h .1) in
-    cc (by-angle y x (held-y start) (held-x start) (h .0) q)
+    let d = c .before .before in
+    let start = d .before .before .before .before in
+    let h = taken (c .before) in
+    let q = never (not (steepOf (y d) (x d))) (lt zero64 (x d)) (lt (ratio (y d) (x d)) tiny) (h .1) in
+    c .angle .ensures ∙ angle-at (y d) (x d) (steep d) (quotient d) ∙ sym (by-angle (y d) (x d) (held-y start) (held-x start) (h .0) q)
 
 rare-requires : tie.Need-rare-requires
-rare-requires c κs = (cc, cc, cc)
+rare-requires c κs = (steep (c .before), least (c .before), most (c .before))
 
 returns-2 : tie.Need-returns-2
 returns-2 c = search needs

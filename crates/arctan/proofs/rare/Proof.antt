@@ -1,13 +1,15 @@
 -- `arctan::rare` meets its contract. Assumes nothing.
 use mathlib.Core.Path.{_≡_, sym, _∙_, subst}
-use mathlib.Core.Bool.{true, false}
+use mathlib.Core.Bool.{not, _&&_}
 use lib.Dec.{T}
-use lib.Ieee.{binary64, fits, div}
+use lib.Ieee.{Float, binary64, fits, div, lt, le}
+use Rattle.laws.proofs.Largest.{largest}
 use Rattle.arctan.specs.Sizes.{InUnit}
-use Rattle.arctan.specs.Rule.{ratio}
+use Rattle.arctan.specs.Rule.{zero64, tiny, ratio}
 use Rattle.arctan.proofs.Tests.{tested}
 use Rattle.arctan.proofs.Ratio.{ratio-unit}
 use Rattle.arctan.proofs.Slight.{quick}
+use Rattle.arctan.proofs.Sized.{quotient-is, test-is, quick-is, angle-at}
 use Rattle.arctan.proofs.Cases.{by-edge, by-quotient, by-angle}
 use borrow.Author.Needs.{needs}
 use Rattle.arctan.proofs.rare.Statement.{statement}
@@ -19,35 +21,37 @@ held-y c = subst T (sym (c .good .0 .1)) tt
 held-x : (c : tie.Start) → T (fits binary64 (c .args .x))
 held-x c = subst T (sym (c .good .1 .0 .1)) tt
 
+abbrev y : tie.Start → Float
+y c = c .args .y
+
+abbrev x : tie.Start → Float
+x c = c .args .x
+
+quotient : (c : tie.Start) → div binary64 (c .args .low) (c .args .high) ≡ ratio (y c) (x c)
+quotient c = quotient-is (y c) (x c) (c .args .low) (c .args .high) (c .pre .1) (c .pre .2)
+
+test : (c : tie.Start) → tested (y c) (x c) ≡ (lt zero64 (c .args .low) && le (c .args .high) largest)
+test c = sym (test-is (y c) (x c) (c .args .low) (c .args .high) (c .pre .1) (c .pre .2))
+
+slight : (c : tie.Start) → quick (y c) (x c) ≡ (not (c .args .steep) && (lt zero64 (x c) && lt (div binary64 (c .args .low) (c .args .high)) tiny))
+slight c = sym (quick-is (y c) (x c) (c .pre .0) (quotient c))
+
 returns : tie.Need-returns
-unfolding ratio
 returns c =
     let start = c .before .before in
-    let y = start .args .y in
-    let x = start .args .x in
-    let t : tested y x ≡ true = cc in
-    let q : quick y x ≡ true = cc in
-    sym (by-quotient y x (held-y start) (held-x start) t q)
+    sym (by-quotient (y start) (x start) (held-y start) (held-x start) (test start ∙ c .before .if1 .taken) (slight start ∙ c .if2 .taken))
 
 angle-requires : tie.Need-angle-requires
-unfolding ratio
 angle-requires c κs =
     let start = c .before .before in
-    let y = start .args .y in
-    let x = start .args .x in
-    let t : tested y x ≡ true = cc in
-    let e : ratio y x ≡ div binary64 (start .args .low) (start .args .high) = cc in
-    subst InUnit e (ratio-unit y x t)
+    subst InUnit (sym (quotient start)) (ratio-unit (y start) (x start) (test start ∙ c .before .if1 .taken))
 
 returns-2 : tie.Need-returns-2
-unfolding ratio
 returns-2 c =
     let start = c .before .before .before in
-    let y = start .args .y in
-    let x = start .args .x in
-    let t : tested y x ≡ true = cc in
-    let q : quick y x ≡ false = cc in
-    cc (by-angle y x (held-y start) (held-x start) t q)
+    c .angle .ensures
+    ∙ angle-at (y start) (x start) (start .pre .0) (quotient start)
+    ∙ sym (by-angle (y start) (x start) (held-y start) (held-x start) (test start ∙ c .before .before .if1 .taken) (slight start ∙ c .before .if2 .left))
 
 edge-requires : tie.Need-edge-requires
 edge-requires c κs = search needs
@@ -55,10 +59,7 @@ edge-requires c κs = search needs
 returns-3 : tie.Need-returns-3
 returns-3 c =
     let start = c .before .before in
-    let y = start .args .y in
-    let x = start .args .x in
-    let t : tested y x ≡ false = cc in
-    c .edge .ensures ∙ sym (by-edge y x (held-y start) (held-x start) t)
+    c .edge .ensures ∙ sym (by-edge (y start) (x start) (held-y start) (held-x start) (test start ∙ c .before .if1 .left))
 
 pub rare-spec : {M : Type 1} → statement M
 rare-spec = tie.close (tie.spec returns angle-requires returns-2 edge-requires returns-3)

@@ -6,8 +6,8 @@ use native.Mathlib.Omega.{arith}
 use lib.ListN.{length}
 use Rattle.hits.specs.Hit.{written}
 use Rattle.hits.proofs.Rooms.{written-none}
-use Rattle.hunt.specs.declared.Cell.{Cell}
-use Rattle.hunt.specs.Frame.{value}
+use Rattle.one_bracket.specs.declared.Cell.{Cell}
+use Rattle.one_bracket.specs.Frame.{value}
 use Rattle.hunt.specs.Cells.{sample}
 use Rattle.hunt.specs.Outcome.{Outcome, tally, none, further, visit, scanned}
 use Rattle.hunt.proofs.Outcomes.{look-counts, scanned-none, scanned-more, scanned-small, cell-is}

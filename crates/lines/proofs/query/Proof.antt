@@ -3,7 +3,7 @@ use mathlib.Core.Path.{sym, _∙_}
 use native.Mathlib.Omega.{arith}
 use borrow.Author.Tests.{eq-eqb, ne-eqb}
 use Rattle.lines.specs.Read.{query}
-use Rattle.lines.proofs.Taken.{record-within, digit-taken}
+use Rattle.line_fields.proofs.Taken.{record-within, digit-taken}
 use borrow.Author.Needs.{needs}
 use Rattle.lines.proofs.query.Statement.{statement}
 use Rattle.lines.proofs.query.Tie as tie

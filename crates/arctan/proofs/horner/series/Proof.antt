@@ -1,8 +1,9 @@
 -- `arctan::horner::series` meets its contract. Assumes nothing.
-use mathlib.Core.Path.{refl}
+use mathlib.Core.Path.{_∙_, ap}
+use Prim.Native.Nat.{ℕ, _+_}
 use native.Mathlib.Omega.{arith}
-use Rattle.arctan.specs.Rule.{seriesAt, upperSteps, lastStep}
-use Rattle.arctan.proofs.Steps.{high-small}
+use Rattle.arctan.specs.Rule.{lastStep}
+use Rattle.arctan.proofs.Steps.{high-small, series-is}
 use borrow.Author.Needs.{needs}
 use Rattle.arctan.proofs.horner.series.Statement.{statement}
 use Rattle.arctan.proofs.horner.series.Tie as tie
@@ -39,19 +40,24 @@ add-result c =
     omega (arith, c .before .high .ensures, c .before .before .before .before .before .before .before .before .before .before .pre .0 .f0, high-small (c .before .before .fine-step3 .result) (c .before .before .before .before .before .before .before .before .before .before .args .h) (c .before .before .fine-step3 .ensures .1) (c .before .before .before .before .before .before .before .before .before .before .pre .1))
 
 returns : tie.Need-returns
-unfolding seriesAt upperSteps lastStep
+unfolding lastStep
 returns c =
-    rw (
-      c .before .high .ensures,
-      c .before .before .fine-step3 .ensures .0,
-      c .before .before .before .fine-step2 .ensures .0,
-      c .before .before .before .before .fine-step .ensures .0,
-      c .before .before .before .before .before .rough-step5 .ensures .0,
-      c .before .before .before .before .before .before .rough-step4 .ensures .0,
-      c .before .before .before .before .before .before .before .rough-step3 .ensures .0,
-      c .before .before .before .before .before .before .before .before .rough-step2 .ensures .0,
-      c .before .before .before .before .before .before .before .before .before .rough-step .ensures .0,
-    ) refl
+    let c3 = c .before .before in
+    let c4 = c3 .before .before .before in
+    let c8 = c4 .before .before .before .before in
+    let start = c8 .before in
+    ap (λ (v : ℕ). start .args .r .a0 + v) (c .before .high .ensures)
+    ∙ series-is
+    (start .args .r)
+    (start .args .h)
+    (c8 .rough-step .ensures .0)
+    (c4 .before .before .before .rough-step2 .ensures .0)
+    (c4 .before .before .rough-step3 .ensures .0)
+    (c4 .before .rough-step4 .ensures .0)
+    (c4 .rough-step5 .ensures .0)
+    (c3 .before .before .fine-step .ensures .0)
+    (c3 .before .fine-step2 .ensures .0)
+    (c3 .fine-step3 .ensures .0)
 
 pub series-spec : {M : Type 1} → statement M
 series-spec =

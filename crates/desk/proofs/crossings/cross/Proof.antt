@@ -6,7 +6,7 @@ use Rattle.hits.proofs.Rooms.{written-none}
 use Rattle.hunt.specs.declared.Tally.{Tally}
 use Rattle.digits.proofs.Spliced.{put-then}
 use Rattle.queries.specs.Curves.{curvesOutcome}
-use Rattle.desk.proofs.Lines.{within, hits-length}
+use Rattle.printing.proofs.Lines.{within, hits-length}
 use Rattle.desk.proofs.Told.{cross-counted, cross-told}
 use borrow.Author.Needs.{needs}
 use Rattle.desk.proofs.crossings.cross.Statement.{statement}

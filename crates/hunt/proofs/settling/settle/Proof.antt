@@ -4,7 +4,7 @@ use mathlib.Core.List.{List}
 use lib.ListN.{length}
 use Rattle.hits.specs.declared.CurveHit.{CurveHit}
 use Rattle.hits.specs.Hit.{written}
-use Rattle.hunt.specs.declared.Fate.{Fate}
+use Rattle.one_bracket.specs.declared.Fate.{Fate}
 use Rattle.hunt.specs.declared.Tally.{Tally}
 use Rattle.hunt.specs.Outcome.{tally, settle}
 use Rattle.hunt.proofs.Outcomes.{settle-hits}

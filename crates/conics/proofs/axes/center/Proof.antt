@@ -1,0 +1,12 @@
+-- `earc_fit::axes::center` meets its contract. Assumes nothing.
+use mathlib.Core.Path.{refl}
+use Rattle.conics.specs.Axes.{centerOf}
+use Rattle.conics.proofs.axes.center.Statement.{statement}
+use Rattle.conics.proofs.axes.center.Tie as tie
+
+returns : tie.Need-returns
+unfolding centerOf
+returns c = refl
+
+pub center-spec : {M : Type 1} → statement M
+center-spec = tie.close (tie.spec returns)

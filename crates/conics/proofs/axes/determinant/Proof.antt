@@ -1,0 +1,12 @@
+-- `earc_fit::axes::determinant` meets its contract. Assumes nothing.
+use mathlib.Core.Path.{refl}
+use Rattle.conics.specs.Axes.{determinant}
+use Rattle.conics.proofs.axes.determinant.Statement.{statement}
+use Rattle.conics.proofs.axes.determinant.Tie as tie
+
+returns : tie.Need-returns
+unfolding determinant
+returns c = refl
+
+pub determinant-spec : {M : Type 1} → statement M
+determinant-spec = tie.close (tie.spec returns)

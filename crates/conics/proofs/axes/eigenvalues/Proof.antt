@@ -1,0 +1,15 @@
+-- `earc_fit::axes::eigenvalues` meets its contract. Assumes nothing.
+use Rattle.conics.specs.Axes.{eigenvalues}
+use borrow.Author.Needs.{needs}
+use Rattle.conics.proofs.axes.eigenvalues.Statement.{statement}
+use Rattle.conics.proofs.axes.eigenvalues.Tie as tie
+
+sqrt-requires : tie.Need-sqrt-requires
+sqrt-requires c κs = search needs
+
+returns : tie.Need-returns
+unfolding eigenvalues
+returns c = rw (← c .sqrt .ensures)
+
+pub eigenvalues-spec : {M : Type 1} → statement M
+eigenvalues-spec = tie.close (tie.spec sqrt-requires returns)

@@ -1,0 +1,22 @@
+-- `earc_fit::axes::either_flat` meets its contract. Assumes nothing.
+use Rattle.conics.specs.Axes.{eitherFlat}
+use borrow.Author.Needs.{needs}
+use Rattle.conics.proofs.axes.either_flat.Statement.{statement}
+use Rattle.conics.proofs.axes.either_flat.Tie as tie
+
+abs-requires : tie.Need-abs-requires
+abs-requires c κs = search needs
+
+abs-requires-2 : tie.Need-abs-requires-2
+abs-requires-2 c κs = search needs
+
+returns : tie.Need-returns
+unfolding eitherFlat
+returns c = rw (← c .before .before .abs .ensures, ← c .before .abs2 .ensures, c .if1 .taken)
+
+returns-2 : tie.Need-returns-2
+unfolding eitherFlat
+returns-2 c = rw (← c .before .before .abs .ensures, ← c .before .abs2 .ensures, c .if1 .left)
+
+pub either-flat-spec : {M : Type 1} → statement M
+either-flat-spec = tie.close (tie.spec abs-requires abs-requires-2 returns returns-2)

@@ -1,0 +1,4 @@
+-- What the contracts of the crate cite.
+pub mod Lines
+pub mod Conic
+pub mod Axes

@@ -1,0 +1,15 @@
+-- `settling::near` is 000's test of two angles. Assumes nothing.
+use Rattle.one_bracket.specs.Fate.{near}
+use borrow.Author.Needs.{needs}
+use Rattle.one_bracket.proofs.fates.near.Statement.{statement}
+use Rattle.one_bracket.proofs.fates.near.Tie as tie
+
+abs-requires : tie.Need-abs-requires
+abs-requires c κs = search needs
+
+returns : tie.Need-returns
+unfolding near
+returns c = rw (c .abs .ensures)
+
+pub near-spec : {M : Type 1} → statement M
+near-spec = tie.close (tie.spec abs-requires returns)

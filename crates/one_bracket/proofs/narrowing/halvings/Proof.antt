@@ -1,0 +1,41 @@
+-- `narrowing::halvings` halves 60 times. Assumes nothing.
+use mathlib.Core.Path.{_≡_, sym, ap}
+use Prim.Native.Nat.{_≤_, _-_}
+use native.Mathlib.Omega.{arith}
+use Rattle.one_bracket.specs.Frame.{value}
+use Rattle.one_bracket.specs.Narrow.{halved, narrowed}
+use Rattle.one_bracket.proofs.Halvings.{narrowed-none, narrowed-more}
+use borrow.Author.Needs.{needs}
+use Rattle.one_bracket.proofs.narrowing.halvings.Statement.{statement}
+use Rattle.one_bracket.proofs.narrowing.halvings.Tie as tie
+
+abbrev Inv-loop : tie.InvT-loop
+Inv-loop f s₀ counter₀ s counter = (counter ≤ 60) × (s ≡ narrowed (value f) counter s₀)
+
+abbrev μ-loop : tie.MeasureT-loop
+μ-loop f s₀ counter₀ s counter = 60 - counter
+
+loop-holds : tie.Need-loop-holds Inv-loop μ-loop
+loop-holds c = (omega arith, sym (narrowed-none _ _))
+
+halve-requires : tie.Need-halve-requires Inv-loop μ-loop
+halve-requires c κs = search needs
+
+add-counter : tie.Need-add-counter Inv-loop μ-loop
+add-counter c = omega arith
+
+loop-less : tie.Need-loop-less Inv-loop μ-loop
+loop-less c = omega arith
+
+loop-again : tie.Need-loop-again Inv-loop μ-loop
+loop-again c = (omega arith, rw (c .halve .ensures, narrowed-more) (ap (halved (value (c .before .before .before .args .f))) (c .before .before .loop .inv .1)))
+
+returns : tie.Need-returns Inv-loop μ-loop
+returns c =
+    let done : c .before .loop .counter ≡ 60 = omega arith in
+    rw (← done) (c .before .loop .inv .1)
+
+pub halvings-spec : {M : Type 1} → statement M
+halvings-spec =
+    tie.close
+    (tie.spec Inv-loop μ-loop loop-holds halve-requires add-counter loop-less loop-again returns)

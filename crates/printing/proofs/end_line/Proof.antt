@@ -1,0 +1,49 @@
+use native.Mathlib.Omega.{arith}
+use Rattle.digits.proofs.Spliced.{put-then}
+use Rattle.printing.specs.Printed.{endLine}
+use Rattle.printing.proofs.Lines.{within, head-length, count-length}
+use borrow.Author.Needs.{needs}
+use Rattle.printing.proofs.end_line.Statement.{statement}
+use Rattle.printing.proofs.end_line.Tie as tie
+
+put-head-requires : tie.Need-put-head-requires
+put-head-requires c κs = search needs
+
+put-count-requires : tie.Need-put-count-requires
+put-count-requires c κs = omega (arith, within (c .before .before .before .put-head .ensures) (head-length _ _))
+
+cast-put-count : tie.Need-cast-put-count
+cast-put-count c = search needs
+
+put-count-requires-2 : tie.Need-put-count-requires-2
+put-count-requires-2 c κs = omega (arith, within (c .before .before .before .before .put-count .ensures) (count-length _), within (c .before .before .before .before .before .before .before .before .put-head .ensures) (head-length _ _))
+
+cast-put-count-2 : tie.Need-cast-put-count-2
+cast-put-count-2 c = search needs
+
+put-count-requires-3 : tie.Need-put-count-requires-3
+put-count-requires-3 c κs = omega (arith, within (c .before .before .before .before .put-count2 .ensures) (count-length _), within (c .before .before .before .before .before .before .before .before .before .put-count .ensures) (count-length _), within (c .before .before .before .before .before .before .before .before .before .before .before .before .before .put-head .ensures) (head-length _ _))
+
+put-byte-requires : tie.Need-put-byte-requires
+put-byte-requires c κs = omega (arith, within (c .before .before .before .put-count3 .ensures) (count-length _), within (c .before .before .before .before .before .before .before .before .put-count2 .ensures) (count-length _), within (c .before .before .before .before .before .before .before .before .before .before .before .before .before .put-count .ensures) (count-length _), within (c .before .before .before .before .before .before .before .before .before .before .before .before .before .before .before .before .before .put-head .ensures) (head-length _ _))
+
+same-length : tie.Need-same-length
+same-length c = search needs
+
+returns : tie.Need-returns
+unfolding endLine
+returns c = put-then (put-then (put-then (put-then (c .before .before .before .before .before .before .before .before .before .before .before .before .before .before .before .before .before .before .before .before .put-head .ensures) (omega arith) (c .before .before .before .before .before .before .before .before .before .before .before .before .before .before .before .before .put-count .ensures)) (omega arith) (c .before .before .before .before .before .before .before .before .before .before .before .put-count2 .ensures)) (omega arith) (c .before .before .before .before .before .before .put-count3 .ensures)) (omega arith) (c .before .before .put-byte .ensures)
+
+pub end-line-spec : {M : Type 1} → statement M
+end-line-spec =
+    tie.close
+    (tie.spec
+    put-head-requires
+    put-count-requires
+    cast-put-count
+    put-count-requires-2
+    cast-put-count-2
+    put-count-requires-3
+    put-byte-requires
+    same-length
+    returns)

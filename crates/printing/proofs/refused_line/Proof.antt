@@ -1,0 +1,27 @@
+use native.Mathlib.Omega.{arith}
+use Rattle.digits.proofs.Spliced.{put-then}
+use Rattle.printing.specs.Printed.{refusedLine}
+use Rattle.printing.proofs.Lines.{within, head-length, count-length}
+use borrow.Author.Needs.{needs}
+use Rattle.printing.proofs.refused_line.Statement.{statement}
+use Rattle.printing.proofs.refused_line.Tie as tie
+
+put-head-requires : tie.Need-put-head-requires
+put-head-requires c κs = search needs
+
+put-count-requires : tie.Need-put-count-requires
+put-count-requires c κs = omega (arith, within (c .before .before .before .put-head .ensures) (head-length _ _))
+
+put-byte-requires : tie.Need-put-byte-requires
+put-byte-requires c κs = omega (arith, within (c .before .before .before .put-count .ensures) (count-length _), within (c .before .before .before .before .before .before .before .put-head .ensures) (head-length _ _))
+
+same-length : tie.Need-same-length
+same-length c = search needs
+
+returns : tie.Need-returns
+unfolding refusedLine
+returns c = put-then (put-then (c .before .before .before .before .before .before .before .before .before .before .put-head .ensures) (omega arith) (c .before .before .before .before .before .before .put-count .ensures)) (omega arith) (c .before .before .put-byte .ensures)
+
+pub refused-line-spec : {M : Type 1} → statement M
+refused-line-spec =
+    tie.close (tie.spec put-head-requires put-count-requires put-byte-requires same-length returns)
