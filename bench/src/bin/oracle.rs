@@ -3,9 +3,10 @@
 //!
 //! COUNT inputs a call, a fiftieth of it where a pair is searched. All that a call gives back is compared, bit for bit with
 //! one NaN: the refusal, the numbers, the counts, and every number of the lent room. Ends with 1 where anything differs.
-//! NAME, or how a name begins, chooses among the calls.
+//! NAME, or how a name begins, chooses among the calls. The column NaN counts the answers that hold one: docs/DIFFERENCES.md
+//! lists the one call that may.
 use bench::calls::{Arcs, Call, CALLS};
-use bench::{cases::case, seed, Random};
+use bench::{cases::case, seed, Random, NAN};
 
 const SHOWN: usize = 3;
 
@@ -13,6 +14,7 @@ const SHOWN: usize = 3;
 struct Tally {
     inputs: u64,
     refused: [u64; 7],
+    nans: u64,
     differ: u64,
     shown: Vec<String>,
 }
@@ -23,6 +25,7 @@ fn hold(call: &Call, inputs: u64, random: &mut Random) -> Tally {
         let words = case(call, random);
         let (own, theirs) = ((call.own)(&words), call.told(&words));
         tally.refused[theirs.refusal as usize] += 1;
+        tally.nans += own.numbers.contains(&NAN) as u64;
         if own != theirs {
             tally.differ += 1;
             if tally.shown.len() < SHOWN {
@@ -37,7 +40,7 @@ fn main() {
     let count: u64 = std::env::args().nth(2).and_then(|a| a.parse().ok()).unwrap_or(1_000_000);
     let name = std::env::args().nth(3).unwrap_or_default();
     let mut random = Random(seed());
-    println!("{:<28}{:>9}   refused with 1{:>9}{:>9}{:>9}{:>9}{:>9}{:>9}", "call", "inputs", 2, 3, 4, 5, 6, "differ");
+    println!("{:<28}{:>9}   refused with 1{:>9}{:>9}{:>9}{:>9}{:>9}{:>9}{:>9}", "call", "inputs", 2, 3, 4, 5, 6, "NaN", "differ");
     let mut shown = Vec::new();
     for call in CALLS.iter().filter(|call| call.name.starts_with(&name)) {
         let inputs = if call.arcs == Arcs::Searched { count / 50 } else { count };
@@ -45,7 +48,7 @@ fn main() {
         let [_, one, others @ ..] = tally.refused;
         print!("{:<28}{:>9}{one:>17}", call.name, tally.inputs);
         others.iter().for_each(|n| print!("{n:>9}"));
-        println!("{:>9}", tally.differ);
+        println!("{:>9}{:>9}", tally.nans, tally.differ);
         shown.extend(tally.shown);
     }
     if !shown.is_empty() {
