@@ -1,5 +1,5 @@
--- Demand 3: "each cell where the coarser brackets contains a cell where the finer does; brackets never grow fewer; each bracket, once narrowed, lies in its own cell and still has ends
--- of opposite sign or an end at zero", under the premise that each value which the hunts work out is zero or of size 2^-53 to 2^200. Definitions only. Assumes nothing.
+-- Demand 3: "if every inside-outside value that the two hunts work out is zero or of size 2^-53 to 2^200, each cell where the coarser brackets a crossing contains a cell where the
+-- finer does; brackets never grow fewer; each, once narrowed, lies in its own cell and still has ends of opposite sign or an end at zero." Definitions only. Assumes nothing.
 use Prim.Native.Nat.{ℕ, _≤_, _<_}
 use mathlib.Core.Bool.{Bool, true, false, _||_}
 use mathlib.Core.Path.{_≡_}
@@ -36,7 +36,7 @@ pub record Inside (a b : Arc) (k i k' : ℕ) : Type 0 where
   pub from : T (along (rising a) (cellAt a b k i .lo) (cellAt a b k' place .lo))
   pub to : T (along (rising a) (cellAt a b k' place .hi) (cellAt a b k i .hi))
 
--- "each cell where the coarser brackets contains a cell where the finer does": no cell is visited where a test ends the call
+-- "each cell where the coarser brackets a crossing contains a cell where the finer does": no cell is visited where a test ends the call
 pub record Contained (a b : Arc) (k k' : ℕ) : Type 0 where
   pub contains : ends a b ≡ false → (i : ℕ) → i < cells k → T (brackets (cellAt a b k i)) → Inside a b k i k'
   -- "brackets never grow fewer"
