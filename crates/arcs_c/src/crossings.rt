@@ -14,7 +14,8 @@ pub extern "C" fn arcs_intersect_arcs(
     room: &mut [f64],
     counts: &mut [u64],
 ) -> u32
-    ensures { λ r. ⌜ HitsOut (arcsAsked (lentArc (now (a .entry)) «a_marks») (lentArc (now (b .entry)) «b_marks») depth) (now (room .entry)) (now (counts .entry)) r (now (room .exit)) (now (counts .exit)) ⌝ }
+    ensures { λ r. ⌜ HitsOut (arcsAsked (lentArc (now (a .entry)) «a_marks») (lentArc (now (b .entry)) «b_marks») depth)
+        (now (room .entry)) (now (counts .entry)) r (now (room .exit)) (now (counts .exit)) ⌝ }
 {
     let p = lent::arc(a, a_marks);
     let q = lent::arc(b, b_marks);
@@ -39,7 +40,8 @@ pub extern "C" fn arcs_intersect(
     room: &mut [f64],
     counts: &mut [u64],
 ) -> u32
-    ensures { λ r. ⌜ HitsOut (curvesAsked (lentCurve (now (a .entry)) «a_marks») (lentCurve (now (b .entry)) «b_marks») depth) (now (room .entry)) (now (counts .entry)) r (now (room .exit)) (now (counts .exit)) ⌝ }
+    ensures { λ r. ⌜ HitsOut (curvesAsked (lentCurve (now (a .entry)) «a_marks») (lentCurve (now (b .entry)) «b_marks») depth)
+        (now (room .entry)) (now (counts .entry)) r (now (room .exit)) (now (counts .exit)) ⌝ }
 {
     let p = lent::curve(a, a_marks);
     let q = lent::curve(b, b_marks);

@@ -1,5 +1,6 @@
 // Points, tangents and lines: the library's answer goes to `out`, the refusal's number is given back.
-ghost use Rattle.points.specs.Told.{ellipsePointTold, ellipseTangentTold, arcPointAtTold, arcTangentAtTold, arcStartPosTold, arcEndPosTold, pointToSegmentDistTold, projectOntoSegmentTold, lineLineIntersectionTold};
+ghost use Rattle.points.specs.Told.{ellipsePointTold, ellipseTangentTold, arcPointAtTold, arcTangentAtTold, arcStartPosTold, arcEndPosTold};
+ghost use Rattle.points.specs.Told.{pointToSegmentDistTold, projectOntoSegmentTold, lineLineIntersectionTold};
 ghost use Rattle.queries.specs.Curves.{at};
 ghost use Rattle.lent.specs.Lent.{lentArc};
 ghost use Rattle.lent.specs.Exported.{NumbersOut};

@@ -1,15 +1,16 @@
 -- The rule keeps Annex F row by row, and its constants are 01's. Assumes nothing.
 use mathlib.Core.Path.{_≡_, refl, sym, _∙_}
 use mathlib.Core.Bool.{Bool, true, false, cond, _||_, true≢false}
-use Prim.Native.Nat.{zero, suc, _+_, _*_}
+use Prim.Native.Nat.{zero as nought, suc, _+_, _*_}
 use native.Mathlib.Omega.{arith}
 use lib.Count.{trailingZeros}
 use lib.Ieee.{Float, nan, inf, fin, up, down, isNan, ofBits, ofFields, odd, size, span, climb, round, units, neg, mul, div, lt}
+use Rattle.laws.specs.Literal.{zero}
 use Rattle.arctan.specs.AnnexF.{zeroOf, signed, AnnexF, Constants}
 use Rattle.laws.specs.Kind.{negative, isInfinite, isZero, isOrdinary}
 use Rattle.laws.proofs.Kind.{not-less}
 use Rattle.scalar.specs.Angles.{pi, fracPi2}
-use Rattle.arctan.specs.Rule.{zero64, edgeSize, edgeOf, arctangent}
+use Rattle.arctan.specs.Rule.{edgeSize, edgeOf, arctangent}
 use Rattle.arctan.proofs.Tests.{and-none}
 use Rattle.arctan.proofs.Cases.{edge-number, arctan-edge}
 
@@ -18,27 +19,27 @@ unfolding div mul round size span climb units ofBits ofFields odd trailingZeros
 constants = record { half = refl; quarter = refl; digits = refl; exact = refl; thrice = refl }
 
 -- ---- what a comparison with 0 says of the sign bit
-below-is : (x : Float) → lt x zero64 ≡ true → (isNan x ≡ false) × ((negative x ≡ true) × (isZero x ≡ false))
+below-is : (x : Float) → lt x zero ≡ true → (isNan x ≡ false) × ((negative x ≡ true) × (isZero x ≡ false))
 unfolding lt isNan ofBits ofFields odd
 below-is nan h = absurd (true≢false (sym h))
 below-is (inf s) h = (refl, (h, refl))
-below-is (fin true zero e) h = absurd (true≢false (sym h ∙ not-less 0 (0 * up e * 1 + 0 * 1 * down e) (omega arith)))
+below-is (fin true nought e) h = absurd (true≢false (sym h ∙ not-less 0 (0 * up e * 1 + 0 * 1 * down e) (omega arith)))
 below-is (fin true (suc m) e) h = (refl, (refl, refl))
 below-is (fin false m e) h = absurd (true≢false (sym h ∙ not-less (m * up e * 1) (0 * 1 * down e) (omega arith)))
 
-above-is : (x : Float) → lt zero64 x ≡ true → (isNan x ≡ false) × ((negative x ≡ false) × (isZero x ≡ false))
+above-is : (x : Float) → lt zero x ≡ true → (isNan x ≡ false) × ((negative x ≡ false) × (isZero x ≡ false))
 unfolding lt isNan ofBits ofFields odd
 above-is nan h = absurd (true≢false (sym h))
 above-is (inf true) h = absurd (true≢false (sym h))
 above-is (inf false) h = (refl, (refl, refl))
 above-is (fin true m e) h = absurd (true≢false (sym h))
-above-is (fin false zero e) h = absurd (true≢false (sym h ∙ not-less (0 * 1 * down e) (0 * up e * 1) (omega arith)))
+above-is (fin false nought e) h = absurd (true≢false (sym h ∙ not-less (0 * 1 * down e) (0 * up e * 1) (omega arith)))
 above-is (fin false (suc m) e) h = (refl, (refl, refl))
 
 -- ---- a zero beside x
-zero-beside : (s : Bool) (x : Float) → isNan x ≡ false → arctangent (zeroOf s) x ≡ signed s (cond (negative x) pi zero64)
+zero-beside : (s : Bool) (x : Float) → isNan x ≡ false → arctangent (zeroOf s) x ≡ signed s (cond (negative x) pi zero)
 unfolding edgeSize isNan
-zero-beside s x e = arctan-edge (zeroOf s) x refl ∙ (edge-number (zeroOf s) x e ∙ level (isInfinite x) (cond (negative x) pi zero64))
+zero-beside s x e = arctan-edge (zeroOf s) x refl ∙ (edge-number (zeroOf s) x e ∙ level (isInfinite x) (cond (negative x) pi zero))
   where
     level : (b : Bool) (a : Float) → cond s (neg (cond (b || true) a fracPi2)) (cond (b || true) a fracPi2) ≡ signed s a
     level true a = refl
@@ -73,12 +74,12 @@ annex-f = record {
   nan-x = nan-x;
 }
   where
-    plus : (s : Bool) → signed s zero64 ≡ zeroOf s
+    plus : (s : Bool) → signed s zero ≡ zeroOf s
     plus true = refl
     plus false = refl
 
     nan-x : (y : Float) → arctangent y nan ≡ nan
     nan-x nan = refl
     nan-x (inf s) = refl
-    nan-x (fin s zero e) = refl
+    nan-x (fin s nought e) = refl
     nan-x (fin s (suc m) e) = refl

@@ -1,7 +1,7 @@
 -- Where x is above 0 and y / x is below 2 ^ -26 in size, y / x is the arctangent, for every y and x, and has the sign of y. Assumes nothing.
 use mathlib.Core.Path.{_≡_, refl, sym, _∙_, ap}
 use mathlib.Core.Bool.{Bool, true, false, cond, _&&_, true≢false}
-use Prim.Native.Nat.{ℕ, zero, suc, _*_, _^_, _<_}
+use Prim.Native.Nat.{ℕ, zero as nought, suc, _*_, _^_, _<_}
 use native.Mathlib.Nat.{zero-lt-suc, mul-pos}
 use native.Mathlib.Omega.{arith}
 use lib.IntN.{ℤ, pos}
@@ -11,10 +11,12 @@ use lib.Ieee.{Float, nan, inf, fin, binary64, unlike, up, down, fits, ofBits, of
 use lib.Ieee.Fits.{up-pos, round-is}
 use lib.Ieee.Order.{drop, kept}
 use lib.Ieee.Scale.{round-same}
+use Rattle.laws.specs.Literal.{zero}
 use Rattle.fixed.specs.Size.{sizeOf}
 use Rattle.laws.specs.Kind.{negative}
+use Rattle.laws.proofs.SignBit.{unlike-false}
 use Rattle.laws.proofs.Kind.{not-less, zero-at}
-use Rattle.arctan.specs.Rule.{zero64, tiny, slight, arctangent}
+use Rattle.arctan.specs.Rule.{tiny, slight, arctangent}
 use Rattle.arctan.specs.AnnexF.{zeroOf}
 use Rattle.arctan.specs.Slight.{SlightQuotient}
 use Rattle.arctan.proofs.Cases.{arctan-slight}
@@ -28,7 +30,7 @@ over false b e = absurd (true≢false (sym e))
 -- ---- a rounded fraction has the sign that it is given
 negative-odd : (d : ℕ) (s : Bool) (q k l : ℕ) → negative (odd d s q k l) ≡ s
 unfolding odd
-negative-odd d s zero k l = refl
+negative-odd d s nought k l = refl
 negative-odd d s (suc q) k l = refl
 
 negative-cond : (b s : Bool) (x : Float) → negative x ≡ s → negative (cond b x (inf s)) ≡ s
@@ -41,10 +43,6 @@ negative-units s q k = negative-cond (ltb (q * 2 ^ k) (2 ^ 2098)) s (odd 54 s q 
 
 negative-round : (s : Bool) (a b : ℕ) → negative (round binary64 s a b) ≡ s
 negative-round s a b = rw (round-is binary64 s a b) (negative-units s (kept 53 (a * 2 ^ 1074) b) (drop 53 (a * 2 ^ 1074) b))
-
-unlike-plus : (s : Bool) → unlike s false ≡ s
-unlike-plus true = refl
-unlike-plus false = refl
 
 -- ---- 0 / x is 0, with the sign of the 0
 zero-round : (s : Bool) → round binary64 s 0 1 ≡ zeroOf s
@@ -60,7 +58,7 @@ zero-over : (s : Bool) (n : ℕ) (d : ℤ) → div binary64 (zeroOf s) (fin fals
 zero-over s n d =
     let B : 0 < suc n * up d * 1 = mul-pos (mul-pos (zero-lt-suc n) (up-pos d)) (lit< tt) in
     div-some s false 0 n (pos 0) d
-    ∙ (ap (λ (t : Bool). round binary64 t (0 * 1 * down d) (suc n * up d * 1)) (unlike-plus s)
+    ∙ (ap (λ (t : Bool). round binary64 t (0 * 1 * down d) (suc n * up d * 1)) (unlike-false s)
     ∙ (round-same binary64 s (0 * 1 * down d) (suc n * up d * 1) 0 1 B (lit< tt) (none (down d) (suc n * up d * 1)) ∙ zero-round s))
   where
     none : (d b : ℕ) → 0 * 1 * d * 1 ≡ 0 * b
@@ -86,13 +84,13 @@ pub data Above : Float → Type 0 where
   far : Above (inf false)
   some : (n : ℕ) (d : ℤ) → Above (fin false (suc n) d)
 
-above : (x : Float) → lt zero64 x ≡ true → Above x
+above : (x : Float) → lt zero x ≡ true → Above x
 unfolding lt ofBits ofFields odd
 above nan h = absurd (true≢false (sym h))
 above (inf true) h = absurd (true≢false (sym h))
 above (inf false) h = far
 above (fin true n d) h = absurd (true≢false (sym h))
-above (fin false zero d) h = absurd (true≢false (sym h ∙ not-less (0 * 1 * down d) (0 * up d * 1) (omega arith)))
+above (fin false nought d) h = absurd (true≢false (sym h ∙ not-less (0 * 1 * down d) (0 * up d * 1) (omega arith)))
 above (fin false (suc n) d) h = some n d
 
 -- its y: a finite number
@@ -112,12 +110,12 @@ slight-finite (fin s m e) a h = finite s m e
 
 sign-of : {y x : Float} → Finite y → Above x → negative (div binary64 y x) ≡ negative y
 sign-of (finite s m e) far = rw (over-infinity s m e) refl
-sign-of (finite s m e) (some n d) = rw (div-some s false m n e d) (negative-round (unlike s false) (m * up e * down d) (suc n * up d * down e) ∙ unlike-plus s)
+sign-of (finite s m e) (some n d) = rw (div-some s false m n e d) (negative-round (unlike s false) (m * up e * down d) (suc n * up d * down e) ∙ unlike-false s)
 
 quotient-of : {y x : Float} → Finite y → Above x → T (fits binary64 y) → slight y x ≡ true → arctangent y x ≡ div binary64 y x
 unfolding lt ofBits ofFields odd
-quotient-of (finite s zero e) far f h = rw (zero-at s e f) (annex-f .zero-right s (inf false) refl ∙ sym (over-infinity s 0 (pos 0)))
-quotient-of (finite s zero e) (some n d) f h =
+quotient-of (finite s nought e) far f h = rw (zero-at s e f) (annex-f .zero-right s (inf false) refl ∙ sym (over-infinity s 0 (pos 0)))
+quotient-of (finite s nought e) (some n d) f h =
     rw (zero-at s e f) (annex-f .zero-right s (fin false (suc n) d) (over _ _ h .0) ∙ sym (zero-over s n d))
 quotient-of (finite s (suc m) e) far f h = annex-f .far-right s m e ∙ sym (over-infinity s (suc m) e)
 quotient-of (finite s (suc m) e) (some n d) f h = arctan-slight (fin s (suc m) e) (fin false (suc n) d) refl h
@@ -125,8 +123,8 @@ quotient-of (finite s (suc m) e) (some n d) f h = arctan-slight (fin s (suc m) e
 pub slight-quotient : SlightQuotient arctangent
 slight-quotient = record { is = is; sign = sign }
   where
-    parts : (y x : Float) → slight y x ≡ true → (lt zero64 x ≡ true) × (lt (sizeOf (div binary64 y x)) tiny ≡ true)
-    parts y x h = over (lt zero64 x) (lt (sizeOf (div binary64 y x)) tiny) h
+    parts : (y x : Float) → slight y x ≡ true → (lt zero x ≡ true) × (lt (sizeOf (div binary64 y x)) tiny ≡ true)
+    parts y x h = over (lt zero x) (lt (sizeOf (div binary64 y x)) tiny) h
 
     is : (y x : Float) → T (fits binary64 y) → T (fits binary64 x) → slight y x ≡ true → arctangent y x ≡ div binary64 y x
     is y x f g h = let p = parts y x h in let a = above x (p .0) in quotient-of (slight-finite y a (p .1)) a f h

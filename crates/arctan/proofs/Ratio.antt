@@ -2,7 +2,7 @@
 use mathlib.Core.Path.{_≡_, refl, sym, _∙_, subst}
 use mathlib.Core.Logic.{_⊎_, inl, inr, ⊎-elim}
 use mathlib.Core.Bool.{Bool, true, false, not, cond, _&&_, _||_, true≢false}
-use Prim.Native.Nat.{ℕ, zero, suc, _+_, _*_, _≤_, _<_}
+use Prim.Native.Nat.{ℕ, zero as nought, suc, _+_, _*_, _≤_, _<_}
 use native.Mathlib.Nat.{zero-mul, mul-pos, mul-comm, mul-assoc, mul-le-mul-right, le-of-lt, lt-irrefl}
 use native.Mathlib.Omega.{arith}
 use lib.IntN.{pos}
@@ -13,12 +13,12 @@ use lib.Ieee.Exact.{HasValue}
 use lib.Ieee.Order.{round-mono}
 use lib.Ieee.Fits.{down-pos, and-l, and-r, div-fits}
 use lib.Ieee.Positive.{first-pos}
+use Rattle.laws.specs.Literal.{zero, largest}
 use Rattle.laws.specs.Units.{one, Off}
 use Rattle.laws.proofs.Units.{round-off}
-use Rattle.laws.proofs.Largest.{largest}
 use Rattle.arctan.specs.Sizes.{InUnit}
 use Rattle.fixed.specs.Size.{sizeOf}
-use Rattle.arctan.specs.Rule.{zero64, steepOf, smaller, larger, ratio}
+use Rattle.arctan.specs.Rule.{steepOf, smaller, larger, ratio}
 use Rattle.arctan.proofs.Tests.{tested}
 
 -- ---- a finite number above 0
@@ -27,10 +27,6 @@ Positive nan = ⊥
 Positive (inf s) = ⊥
 Positive (fin true m e) = ⊥
 Positive (fin false m e) = 0 < m * up e
-
-zero-is : zero64 ≡ fin false 0 (pos 0)
-unfolding ofBits ofFields odd
-zero-is = refl
 
 below-largest : (s : Bool) → T (le (inf s) largest) → s ≡ true
 unfolding le lt eq ofBits ofFields odd trailingZeros
@@ -48,7 +44,7 @@ above-zero : (m d : ℕ) → 0 < m → 0 < d → 0 < m * d
 above-zero m d h k = mul-pos h k
 
 -- with x above 0, y finite and x not above y, both are
-pub positives : (x y : Float) → T (lt zero64 x) → T (le y largest) → NotAbove x y → (Positive x) × (Positive y)
+pub positives : (x y : Float) → T (lt zero x) → T (le y largest) → NotAbove x y → (Positive x) × (Positive y)
 unfolding lt le eq ofBits ofFields odd
 positives nan y h k n = absurd h
 positives (inf true) y h k n = absurd h
@@ -94,7 +90,7 @@ in-unit (fin false m e) g v h =
     (or-cases (ltb a b) (eqb a b && (true || eqb a 0)) h)
 
 pub not-zero : (n u : ℕ) → 0 < n * u → eqb n 0 ≡ false
-not-zero zero u h = absurd (lt-irrefl 0 (subst (λ (z : ℕ). 0 < z) (zero-mul u) h))
+not-zero nought u h = absurd (lt-irrefl 0 (subst (λ (z : ℕ). 0 < z) (zero-mul u) h))
 not-zero (suc n) u h = eqb·suc-zero n
 
 quotient : (x y : Float) → Positive x → Positive y → NotAbove x y → InUnit (div binary64 x y)
@@ -136,10 +132,10 @@ quotient (fin false m e) (fin false n d) p q h =
         cross a b h = omega arith
 
 -- ---- the tested case
-both-ways : (x y : Float) → T (lt zero64 x) → T (le y largest) → NotAbove x y → InUnit (div binary64 x y)
+both-ways : (x y : Float) → T (lt zero x) → T (le y largest) → NotAbove x y → InUnit (div binary64 x y)
 both-ways x y h k n = let p = positives x y h k n in quotient x y (p .0) (p .1) n
 
-chosen : (t : Bool) (a b : Float) → t ≡ lt a b → T (lt zero64 (cond t a b)) → T (le (cond t b a) largest) → InUnit (div binary64 (cond t a b) (cond t b a))
+chosen : (t : Bool) (a b : Float) → t ≡ lt a b → T (lt zero (cond t a b)) → T (le (cond t b a) largest) → InUnit (div binary64 (cond t a b) (cond t b a))
 chosen true a b h k l = both-ways a b k l (inl (subst (λ (z : Bool). T z) h tt))
 chosen false a b h k l = both-ways b a k l (inr (subst (λ (z : Bool). T (not z)) h tt))
 
@@ -148,7 +144,7 @@ unfolding ratio
 ratio-unit y x h =
     let t : T (tested y x) = subst (λ (z : Bool). T z) (sym h) tt in
     chosen (steepOf y x) (sizeOf x) (sizeOf y) refl
-    (and-l (lt zero64 (smaller y x)) (le (larger y x) largest) t) (and-r (lt zero64 (smaller y x)) (le (larger y x) largest) t)
+    (and-l (lt zero (smaller y x)) (le (larger y x) largest) t) (and-r (lt zero (smaller y x)) (le (larger y x) largest) t)
 
 pub ratio-fits : (y x : Float) → T (fits binary64 (ratio y x))
 unfolding ratio

@@ -2,9 +2,9 @@
 use mathlib.Core.Path.{_≡_, refl}
 use mathlib.Core.Bool.{Bool, not, cond, _&&_}
 use lib.Ieee.{Float, binary64, div, lt, le}
-use Rattle.laws.proofs.Largest.{largest}
+use Rattle.laws.specs.Literal.{zero, largest}
 use Rattle.fixed.specs.Size.{sizeOf}
-use Rattle.arctan.specs.Rule.{zero64, tiny, steepOf, smaller, larger, ratio, angleOf}
+use Rattle.arctan.specs.Rule.{tiny, steepOf, smaller, larger, ratio, angleOf}
 use Rattle.arctan.proofs.Tests.{tested}
 use Rattle.arctan.proofs.Slight.{quick}
 
@@ -23,11 +23,11 @@ module _ (y x low high : Float) (low-is : low ≡ smaller y x) (high-is : high �
   unfolding ratio
   quotient-is = rw (low-is, high-is) refl
 
-  pub test-is : (lt zero64 low && le high largest) ≡ tested y x
+  pub test-is : (lt zero low && le high largest) ≡ tested y x
   test-is = rw (low-is, high-is) refl
 
 pub angle-at : (y x : Float) {s : Bool} {u : Float} → s ≡ steepOf y x → u ≡ ratio y x → angleOf y x s u ≡ angleOf y x (steepOf y x) (ratio y x)
 angle-at y x e f = rw (e, f) refl
 
-pub quick-is : (y x : Float) {s : Bool} {u : Float} → s ≡ steepOf y x → u ≡ ratio y x → (not s && (lt zero64 x && lt u tiny)) ≡ quick y x
+pub quick-is : (y x : Float) {s : Bool} {u : Float} → s ≡ steepOf y x → u ≡ ratio y x → (not s && (lt zero x && lt u tiny)) ≡ quick y x
 quick-is y x e f = rw (e, f) refl

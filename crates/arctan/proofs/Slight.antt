@@ -12,16 +12,16 @@ use lib.Ieee.{Float, nan, inf, fin, binary64, up, down, ofBits, ofFields, odd, r
 use lib.Ieee.Bits.{is-true}
 use lib.Ieee.Fits.{down-pos, and-l, and-r}
 use lib.Ieee.Order.{round-mono}
+use Rattle.laws.specs.Literal.{zero, largest}
 use Rattle.laws.proofs.SignBit.{neg-neg, div-neg}
 use Rattle.laws.proofs.Logic.{not-true}
-use Rattle.laws.proofs.Largest.{largest}
 use Rattle.arctan.specs.Sizes.{InUnit}
 use Rattle.fixed.specs.Size.{sizeOf}
-use Rattle.arctan.specs.Rule.{zero64, tiny, steepOf, slight, ratio}
+use Rattle.arctan.specs.Rule.{tiny, steepOf, slight, ratio}
 use Rattle.arctan.proofs.Tests.{tested}
 use Rattle.arctan.proofs.Ratio.{Positive, positives, one-round, not-zero, or-cases, ratio-unit}
 
-pub not-below-zero : (x : Float) → T (lt zero64 x) → lt x zero64 ≡ false
+pub not-below-zero : (x : Float) → T (lt zero x) → lt x zero ≡ false
 unfolding lt ofBits ofFields odd
 not-below-zero nan h = refl
 not-below-zero (inf true) h = absurd h
@@ -109,31 +109,31 @@ cases false false a b c f g = refl
 
 -- what the code tests: y is not the larger in size, x is above 0, and u is below 2 ^ -26
 abbrev pub quick : Float → Float → Bool
-quick y x = not (steepOf y x) && (lt zero64 x && lt (ratio y x) tiny)
+quick y x = not (steepOf y x) && (lt zero x && lt (ratio y x) tiny)
 
 pub slight-is : (y x : Float) → tested y x ≡ true → slight y x ≡ quick y x
 unfolding ratio sizeOf
-slight-is y x g = sym (cases (steepOf y x) (lt zero64 x) (lt (ratio y x) tiny) true (lt (sizeOf (div binary64 y x)) tiny) level steep)
+slight-is y x g = sym (cases (steepOf y x) (lt zero x) (lt (ratio y x) tiny) true (lt (sizeOf (div binary64 y x)) tiny) level steep)
   where
-    right : lt zero64 x ≡ true → lt x zero64 ≡ false
+    right : lt zero x ≡ true → lt x zero ≡ false
     right p = not-below-zero x (subst (λ (t : Bool). T t) (sym p) tt)
 
     whole : T (tested y x)
     whole = subst (λ (t : Bool). T t) (sym g) tt
 
-    level : steepOf y x ≡ false → lt zero64 x ≡ true → lt (ratio y x) tiny ≡ lt (sizeOf (div binary64 y x)) tiny
+    level : steepOf y x ≡ false → lt zero x ≡ true → lt (ratio y x) tiny ≡ lt (sizeOf (div binary64 y x)) tiny
     level e p =
-        let u : ratio y x ≡ div binary64 (sizeOf y) x = flat (steepOf y x) (lt x zero64) x (sizeOf y) e (right p) in
+        let u : ratio y x ≡ div binary64 (sizeOf y) x = flat (steepOf y x) (lt x zero) x (sizeOf y) e (right p) in
         let i = subst InUnit u (ratio-unit y x g) in
         ap (λ (r : Float). lt r tiny) u
-        ∙ (sym (either-sign (lt y zero64) (div binary64 (sizeOf y) x) i) ∙ ap (λ (r : Float). lt (sizeOf r) tiny) (signed-quotient (lt y zero64) y x))
+        ∙ (sym (either-sign (lt y zero) (div binary64 (sizeOf y) x) i) ∙ ap (λ (r : Float). lt (sizeOf r) tiny) (signed-quotient (lt y zero) y x))
 
-    steep : steepOf y x ≡ true → lt zero64 x ≡ true → lt (sizeOf (div binary64 y x)) tiny ≡ false
+    steep : steepOf y x ≡ true → lt zero x ≡ true → lt (sizeOf (div binary64 y x)) tiny ≡ false
     steep e p =
-        let t = subst (λ (b : Bool). T (lt zero64 (cond b (sizeOf x) (sizeOf y)) && le (cond b (sizeOf y) (sizeOf x)) largest)) e whole in
+        let t = subst (λ (b : Bool). T (lt zero (cond b (sizeOf x) (sizeOf y)) && le (cond b (sizeOf y) (sizeOf x)) largest)) e whole in
         let h : T (lt (sizeOf x) (sizeOf y)) = subst (λ (b : Bool). T b) (sym e) tt in
-        let q = positives (sizeOf x) (sizeOf y) (and-l (lt zero64 (sizeOf x)) (le (sizeOf y) largest) t) (and-r (lt zero64 (sizeOf x)) (le (sizeOf y) largest) t) (inl h) in
+        let q = positives (sizeOf x) (sizeOf y) (and-l (lt zero (sizeOf x)) (le (sizeOf y) largest) t) (and-r (lt zero (sizeOf x)) (le (sizeOf y) largest) t) (inl h) in
         let one = from-one (sizeOf x) (sizeOf y) (q .0) (q .1) h in
         let same : sizeOf x ≡ x = ap (λ (b : Bool). cond b (neg x) x) (right p) in
-        ap (λ (r : Float). lt (sizeOf r) tiny) (sym (signed-quotient (lt y zero64) y x))
-        ∙ large (lt y zero64) (div binary64 (sizeOf y) x) (subst (λ (z : Float). T (le (fin false 1 (pos 0)) (div binary64 (sizeOf y) z))) same one)
+        ap (λ (r : Float). lt (sizeOf r) tiny) (sym (signed-quotient (lt y zero) y x))
+        ∙ large (lt y zero) (div binary64 (sizeOf y) x) (subst (λ (z : Float). T (le (fin false 1 (pos 0)) (div binary64 (sizeOf y) z))) same one)

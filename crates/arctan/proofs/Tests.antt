@@ -2,7 +2,7 @@
 use mathlib.Core.Path.{_≡_, refl, sym, _∙_, subst}
 use mathlib.Core.Logic.{⊎-elim}
 use mathlib.Core.Bool.{Bool, true, false, not, cond, _&&_, _||_, true≢false}
-use Prim.Native.Nat.{ℕ, zero, suc, _+_, _*_, _^_, _≤_}
+use Prim.Native.Nat.{ℕ, zero as nought, suc, _+_, _*_, _^_, _≤_}
 use native.Mathlib.Nat.{eq-or-lt-of-le}
 use native.Mathlib.Omega.{arith}
 use lib.IntN.{ℤ, pos}
@@ -10,14 +10,15 @@ use lib.Count.{trailingZeros}
 use lib.Dec.{T, ltb, eqb, nltb→le, eqb-refl}
 use lib.Ieee.{Float, nan, inf, fin, binary64, up, down, fits, ofBits, ofFields, odd, neg, lt, le, eq}
 use lib.Ieee.Bits.{is-true}
+use Rattle.laws.specs.Literal.{zero, largest}
 use Rattle.laws.specs.Kind.{isOrdinary}
-use Rattle.laws.proofs.Largest.{largest, at-most-largest}
+use Rattle.laws.proofs.Largest.{at-most-largest}
 use Rattle.laws.proofs.Kind.{not-less, less, zero-at, some, below-zero, not-below-zero}
 use Rattle.fixed.specs.Size.{sizeOf}
-use Rattle.arctan.specs.Rule.{zero64, smaller, larger}
+use Rattle.arctan.specs.Rule.{smaller, larger}
 
 abbrev pub tested : Float → Float → Bool
-tested y x = lt zero64 (smaller y x) && le (larger y x) largest
+tested y x = lt zero (smaller y x) && le (larger y x) largest
 
 pub and-none : (b : Bool) → (b && false) ≡ false
 and-none true = refl
@@ -44,7 +45,7 @@ unfolding sizeOf lt neg ofBits ofFields odd
 size-infinity true = refl
 size-infinity false = refl
 
-size-zero : (s : Bool) → sizeOf (fin s zero (pos 0)) ≡ fin s zero (pos 0)
+size-zero : (s : Bool) → sizeOf (fin s nought (pos 0)) ≡ fin s nought (pos 0)
 unfolding sizeOf lt neg ofBits ofFields odd
 size-zero true = refl
 size-zero false = refl
@@ -57,7 +58,7 @@ size-some false m e = rw (not-below-zero (suc m) e) refl
 -- a NaN, where it is the smaller or the larger
 nan-above : (y : Float) → tested y nan ≡ false
 unfolding le lt eq sizeOf
-nan-above y = and-none (lt zero64 (sizeOf y))
+nan-above y = and-none (lt zero (sizeOf y))
 
 nan-beside : (x : Float) → tested nan x ≡ false
 unfolding lt ofBits ofFields odd
@@ -69,7 +70,7 @@ unfolding le lt eq ofBits ofFields odd trailingZeros
 not-finite = refl
 
 far-beside : (s : Bool) (y : Float) → tested y (inf s) ≡ false
-far-beside s y = rw (size-infinity s, lt-from-infinity (sizeOf y), not-finite) (and-none (lt zero64 (sizeOf y)))
+far-beside s y = rw (size-infinity s, lt-from-infinity (sizeOf y), not-finite) (and-none (lt zero (sizeOf y)))
 
 finite-below : (s : Bool) (m : ℕ) (e : ℤ) → lt (fin s m e) (inf false) ≡ true
 unfolding lt
@@ -82,15 +83,15 @@ size-finite false t n d = refl
 
 far-above : (s t : Bool) (n : ℕ) (d : ℤ) → tested (inf s) (fin t n d) ≡ false
 unfolding sizeOf
-far-above s t n d = rw (size-infinity s, size-finite (lt (fin t n d) zero64) t n d, not-finite) (and-none (lt zero64 (sizeOf (fin t n d))))
+far-above s t n d = rw (size-infinity s, size-finite (lt (fin t n d) zero) t n d, not-finite) (and-none (lt zero (sizeOf (fin t n d))))
 
 -- a zero is the smaller
-zero-is-none : (s : Bool) → lt zero64 (fin s zero (pos 0)) ≡ false
+zero-is-none : (s : Bool) → lt zero (fin s nought (pos 0)) ≡ false
 unfolding lt ofBits ofFields odd
 zero-is-none true = refl
 zero-is-none false = refl
 
-under-zero : (z : Float) (s : Bool) → lt z (fin s zero (pos 0)) ≡ true → lt zero64 z ≡ false
+under-zero : (z : Float) (s : Bool) → lt z (fin s nought (pos 0)) ≡ true → lt zero z ≡ false
 unfolding lt ofBits ofFields odd
 under-zero nan s h = absurd (true≢false (sym h))
 under-zero (inf true) s h = refl
@@ -99,7 +100,7 @@ under-zero (fin true n d) s h = refl
 under-zero (fin false n d) true h = absurd (true≢false (sym h))
 under-zero (fin false n d) false h = absurd (true≢false (sym h ∙ not-less (n * up d * 1) (0 * 1 * down d) (omega arith)))
 
-not-over-zero : (z : Float) (s : Bool) → lt (fin s zero (pos 0)) z ≡ false → lt zero64 z ≡ false
+not-over-zero : (z : Float) (s : Bool) → lt (fin s nought (pos 0)) z ≡ false → lt zero z ≡ false
 unfolding lt ofBits ofFields odd
 not-over-zero nan s h = refl
 not-over-zero (inf t) s h = h
@@ -109,22 +110,22 @@ not-over-zero (fin false n d) true h =
     let i : 0 * 1 * down d + n * up d * 1 ≤ 0 = nltb→le 0 (0 * 1 * down d + n * up d * 1) (subst (λ (b : Bool). T (not b)) (sym h) tt) in
     not-less (0 * 1 * down d) (n * up d * 1) (omega arith)
 
-zero-above : (s : Bool) (x : Float) → tested (fin s zero (pos 0)) x ≡ false
-zero-above s x = rw (size-zero s) (go (lt (sizeOf x) (fin s zero (pos 0))) refl)
+zero-above : (s : Bool) (x : Float) → tested (fin s nought (pos 0)) x ≡ false
+zero-above s x = rw (size-zero s) (go (lt (sizeOf x) (fin s nought (pos 0))) refl)
   where
-    go : (b : Bool) → lt (sizeOf x) (fin s zero (pos 0)) ≡ b → (lt zero64 (cond b (sizeOf x) (fin s zero (pos 0))) && le (cond b (fin s zero (pos 0)) (sizeOf x)) largest) ≡ false
+    go : (b : Bool) → lt (sizeOf x) (fin s nought (pos 0)) ≡ b → (lt zero (cond b (sizeOf x) (fin s nought (pos 0))) && le (cond b (fin s nought (pos 0)) (sizeOf x)) largest) ≡ false
     go true e = rw (under-zero (sizeOf x) s e) refl
     go false e = rw (zero-is-none s) refl
 
-zero-beside : (y : Float) (s : Bool) → tested y (fin s zero (pos 0)) ≡ false
-zero-beside y s = rw (size-zero s) (go (lt (fin s zero (pos 0)) (sizeOf y)) refl)
+zero-beside : (y : Float) (s : Bool) → tested y (fin s nought (pos 0)) ≡ false
+zero-beside y s = rw (size-zero s) (go (lt (fin s nought (pos 0)) (sizeOf y)) refl)
   where
-    go : (b : Bool) → lt (fin s zero (pos 0)) (sizeOf y) ≡ b → (lt zero64 (cond b (fin s zero (pos 0)) (sizeOf y)) && le (cond b (sizeOf y) (fin s zero (pos 0))) largest) ≡ false
+    go : (b : Bool) → lt (fin s nought (pos 0)) (sizeOf y) ≡ b → (lt zero (cond b (fin s nought (pos 0)) (sizeOf y)) && le (cond b (sizeOf y) (fin s nought (pos 0))) largest) ≡ false
     go true e = rw (zero-is-none s) refl
     go false e = rw (not-over-zero (sizeOf y) s e) refl
 
 -- neither
-over-zero : (m : ℕ) (e : ℤ) → lt zero64 (fin false (suc m) e) ≡ true
+over-zero : (m : ℕ) (e : ℤ) → lt zero (fin false (suc m) e) ≡ true
 unfolding lt ofBits ofFields odd
 over-zero m e = let p = some m e in less (0 * 1 * down e) (suc m * up e * 1) (omega arith)
 
@@ -138,7 +139,7 @@ not-far s m e f = at-most (suc m * up e * 1) (9007199254740991 * 2 ^ 971 * down 
 both-some : (s t : Bool) (m n : ℕ) (e d : ℤ) → T (fits binary64 (fin s (suc m) e)) → T (fits binary64 (fin t (suc n) d)) → tested (fin s (suc m) e) (fin t (suc n) d) ≡ true
 both-some s t m n e d f g = rw (size-some s m e, size-some t n d) (go (lt (fin false (suc n) d) (fin false (suc m) e)))
   where
-    go : (b : Bool) → (lt zero64 (cond b (fin false (suc n) d) (fin false (suc m) e)) && le (cond b (fin false (suc m) e) (fin false (suc n) d)) largest) ≡ true
+    go : (b : Bool) → (lt zero (cond b (fin false (suc n) d) (fin false (suc m) e)) && le (cond b (fin false (suc m) e) (fin false (suc n) d)) largest) ≡ true
     go true = rw (over-zero n d, not-far s m e f) refl
     go false = rw (over-zero m e, not-far t n d g) refl
 
@@ -148,8 +149,8 @@ tested-is nan x f g = nan-beside x
 tested-is (inf s) nan f g = nan-above (inf s)
 tested-is (inf s) (inf t) f g = far-beside t (inf s)
 tested-is (inf s) (fin t n d) f g = far-above s t n d
-tested-is (fin s zero e) x f g = rw (zero-at s e f) (zero-above s x)
+tested-is (fin s nought e) x f g = rw (zero-at s e f) (zero-above s x)
 tested-is (fin s (suc m) e) nan f g = nan-above (fin s (suc m) e)
 tested-is (fin s (suc m) e) (inf t) f g = far-beside t (fin s (suc m) e)
-tested-is (fin s (suc m) e) (fin t zero d) f g = rw (zero-at t d g) (zero-beside (fin s (suc m) e) t)
+tested-is (fin s (suc m) e) (fin t nought d) f g = rw (zero-at t d g) (zero-beside (fin s (suc m) e) t)
 tested-is (fin s (suc m) e) (fin t (suc n) d) f g = both-some s t m n e d f g

@@ -1,66 +1,32 @@
 -- The whole part of 2 ^ 62 u is exact, its upper digits are the whole part j of 32 u, and its other 57 digits are u - j / 32 to within 2 ^ -62. Assumes nothing.
 use mathlib.Core.Path.{_≡_, refl, sym, _∙_, ap, subst}
 use mathlib.Core.Logic.{⊎-elim}
-use mathlib.Core.Bool.{Bool, true, false, not}
-use Prim.Native.Nat.{ℕ, suc, _+_, _-_, _*_, _/_, _%_, _^_, _≤_, _<_, min}
-use native.Mathlib.Nat.{add-mul, mul-one, mul-assoc, mul-comm, mul-right-comm, mul-le-mul-right, le-of-mul-le-mul-right, eq-of-mul-eq-mul-right, le-trans, le-of-eq, le-of-lt, lt-of-le-of-lt, lt-of-lt-of-le, not-le-of-lt, mul-lt-mul-of-pos-right, div-add-mod', div-div-eq-div-mul, div-lt-iff-lt-mul, mod-lt, min-eq-left, min-eq-right}
+use mathlib.Core.Bool.{true, false, not}
+use Prim.Native.Nat.{ℕ, _+_, _-_, _*_, _/_, _%_, _^_, _≤_, _<_, min}
+use native.Mathlib.Nat.{add-mul, mul-one, mul-assoc, mul-comm, mul-le-mul-right, le-of-mul-le-mul-right}
+use native.Mathlib.Nat.{le-trans, le-of-eq, le-of-lt, lt-of-le-of-lt, lt-of-lt-of-le}
+use native.Mathlib.Nat.{mul-lt-mul-of-pos-right, div-add-mod', div-div-eq-div-mul, div-lt-iff-lt-mul, mod-lt, min-eq-left, min-eq-right}
 use native.Mathlib.Omega.{arith}
-use lib.IntN.{ℤ, pos, negsuc}
+use lib.IntN.{ℤ, pos}
 use lib.Count.{trailingZeros}
 use lib.Dec.{T, lit<, lit≤}
-use lib.Pow.{pow-add, pow-lt, pow-pos, pow-mono}
+use lib.Pow.{pow-add, pow-pos, pow-mono}
 use lib.Ieee.{Float, nan, inf, fin, binary64, up, down, fits, isNan, ofBits, ofFields, odd, toBits, round, mul, toUnsigned}
-use lib.Ieee.Digits.{back}
 use lib.Ieee.Exact.{HasValue}
 use lib.Ieee.Fits.{down-pos}
 use lib.Ieee.Nearest.{div-same}
-use Rattle.fixed.proofs.Scaled.{fits-num, fits-den, exact-times, whole-part}
+use Rattle.laws.specs.Fields.{field, digitsOf}
 use Rattle.laws.specs.Units.{tick, one}
 use Rattle.laws.proofs.Units.{one-is, tick-pos}
+use Rattle.laws.proofs.Value.{value-same}
+use Rattle.laws.proofs.Held.{held, fits-num, fits-den}
+use Rattle.laws.proofs.Scaled.{exact-times}
+use Rattle.laws.proofs.Truncation.{whole-part}
 use Rattle.laws.proofs.Pattern.{Units}
 use Rattle.laws.proofs.Logic.{le-or-lt}
-use Rattle.laws.proofs.Fields.{field-below, units-of-bits, units-of-low-bits}
+use Rattle.laws.proofs.Fields.{field-below, digits-most, units-of-bits, units-of-low-bits}
 use Rattle.arctan.specs.Sizes.{InUnit}
 use Rattle.arctan.specs.Rule.{placeOf}
-
--- ---- a binary64 number is m * 2 ^ i units, m of at most 53 digits
-record Grain (m : ℕ) (e : ℤ) : Type 0 where
-  i : ℕ
-  small : m < 2 ^ 53
-  is : m * up e * one ≡ m * 2 ^ i * down e
-
-exponent : (k j : ℕ) → 2 ^ k ≤ 2 ^ j → k ≤ j
-exponent k j h = ⊎-elim (λ x. x) (λ x. absurd (not-le-of-lt (pow-lt x) h)) (le-or-lt k j)
-
-grain-at : (m : ℕ) (e : ℤ) → m < 2 ^ 53 → down e ≤ 2 ^ 1074 → Grain m e
-grain-at m (pos k) s h =
-    record { i = k + 1074; small = s; is = rw (one-is, pow-add 2 k 1074, mul-one (m * (2 ^ k * 2 ^ 1074))) (mul-assoc m (2 ^ k) (2 ^ 1074)) }
-grain-at m (negsuc k) s h =
-    let j = suc k in
-    let b : 1074 - j + j ≡ 1074 = back 1074 j (exponent j 1074 h) in
-    let p : 2 ^ (1074 - j) * 2 ^ j ≡ 2 ^ 1074 = sym (pow-add 2 (1074 - j) j) ∙ ap (λ (z : ℕ). 2 ^ z) b in
-    record {
-      i = 1074 - j;
-      small = s;
-      is = rw (mul-one m, one-is, mul-assoc m (2 ^ (1074 - j)) (2 ^ j)) (ap (λ (z : ℕ). m * z) (sym p));
-    }
-
-grain : (s : Bool) (m : ℕ) (e : ℤ) → T (fits binary64 (fin s m e)) → Grain m e
-grain s m e t = grain-at m e (fits-num s m e t) (fits-den s m e t)
-
--- ---- a value over another denominator
-pub revalue : (x : Float) (s : Bool) (a c b d : ℕ) → 0 < c → a * d ≡ b * c → HasValue x s a c → HasValue x s b d
-revalue nan s a c b d C e v = v
-revalue (inf t) s a c b d C e v = v
-revalue (fin t m k) s a c b d C e v = (
-  v .0,
-  eq-of-mul-eq-mul-right c C (m * up k * d) (b * down k)
-      (mul-right-comm (m * up k) d c
-      ∙ ap (λ (z : ℕ). z * d) (v .1)
-      ∙ mul-right-comm a (down k) d
-      ∙ ap (λ (z : ℕ). z * down k) e
-      ∙ mul-right-comm b c (down k)),
-)
 
 -- ---- 1 / 32 in units
 abbrev pub cell : ℕ
@@ -94,6 +60,7 @@ scaling : ofBits binary64 0x43d0000000000000 ≡ fin false 1 (pos 62)
 unfolding ofBits ofFields odd trailingZeros
 scaling = refl
 
+-- a number up to 1 is m * 2 ^ i units, m of at most 53 digits
 record Unit (m : ℕ) (e : ℤ) : Type 0 where
   i : ℕ
   small : m < 2 ^ 53
@@ -102,19 +69,21 @@ record Unit (m : ℕ) (e : ℤ) : Type 0 where
 
 unit : (m : ℕ) (e : ℤ) → InUnit (fin false m e) → T (fits binary64 (fin false m e)) → Unit m e
 unit m e h t =
-    let g = grain false m e t in
+    let g = held binary64 false m e t in
+    let is : m * up e * one ≡ m * 2 ^ (g .shift) * down e = rw one-is (g .units) in
     let a : m * up e * one ≤ down e * one = mul-le-mul-right one h in
-    let b : m * 2 ^ (g .i) * down e ≤ one * down e = le-trans (le-of-eq (sym (g .is))) (le-trans a (le-of-eq (mul-comm (down e) one))) in
-    record { i = g .i; small = g .small; is = g .is; low = le-of-mul-le-mul-right b (down-pos e) }
+    let b : m * 2 ^ (g .shift) * down e ≤ one * down e = le-trans (le-of-eq (sym is)) (le-trans a (le-of-eq (mul-comm (down e) one))) in
+    record { i = g .shift; small = g .short; is = is; low = le-of-mul-le-mul-right b (down-pos e) }
 
 scaled : (m : ℕ) (e : ℤ) → InUnit (fin false m e) → T (fits binary64 (fin false m e)) →
     HasValue (mul binary64 (fin false m e) (ofBits binary64 0x43d0000000000000)) false (m * up e * 2 ^ 62) (down e)
 unfolding mul
 scaled m e h t =
     rw scaling
-    (revalue (round binary64 false (m * up e * 2 ^ 62) (down e * 1)) false (m * up e * 2 ^ 62) (down e * 1) (m * up e * 2 ^ 62) (down e)
-    (rw (mul-one (down e)) (down-pos e)) (rw (mul-one (down e)) refl)
-    (exact-times false 62 m e (lit≤ tt) (fits-num false m e t) (fits-den false m e t) (within (m * up e) (down e) h)))
+    (value-same (round binary64 false (m * up e * 2 ^ 62) (down e * 1)) false (m * up e * 2 ^ 62) (down e * 1) (m * up e * 2 ^ 62) (down e)
+    (rw (mul-one (down e)) (down-pos e))
+    (exact-times false 62 m e (lit≤ tt) (fits-num binary64 false m e t) (fits-den binary64 false m e t) (within (m * up e) (down e) h))
+    (rw (mul-one (down e)) refl))
   where
     within : (a d : ℕ) → a ≤ d → a ≤ 8192 * d
     within a d h = omega arith
@@ -196,18 +165,15 @@ unit-fewer : (U : ℕ) → U ≤ one → U < 2 ^ (53 + 1022)
 unit-fewer U h = lt-of-le-of-lt (le-trans h (le-of-eq one-is)) (lit< tt)
 
 -- the exponent's field of a number up to 1
-pub unit-field : (u : Float) → InUnit u → T (fits binary64 u) → toBits binary64 u / 2 ^ 52 < 1024
+pub unit-field : (u : Float) → InUnit u → T (fits binary64 u) → field (toBits binary64 u) < 1024
 unit-field u h f =
     let w = placed u h f in
     div-lt-iff-lt-mul (lit< tt) .1
     (field-below u (w .units) 1022 (subst (λ (z : ℕ). HasValue u false (w .units) z) one-is (w .value)) (unit-fewer (w .units) (w .most)))
 
-abbrev pub digitsOf : ℕ → ℕ
-digitsOf b = b % 2 ^ 52 + 2 ^ 52
-
 pub place-by-bits : (u : Float) → InUnit u → T (fits binary64 u) →
-    placeOf u ≡ digitsOf (toBits binary64 u) * 1024 / 2 ^ min (1023 - toBits binary64 u / 2 ^ 52) 63
-place-by-bits u h f = w .place ∙ ⊎-elim ordinary low (le-or-lt 1 (b / 2 ^ 52))
+    placeOf u ≡ digitsOf (toBits binary64 u) * 1024 / 2 ^ min (1023 - field (toBits binary64 u)) 63
+place-by-bits u h f = w .place ∙ ⊎-elim ordinary low (le-or-lt 1 (field b))
   where
     w : Placed u
     w = placed u h f
@@ -224,41 +190,38 @@ place-by-bits u h f = w .place ∙ ⊎-elim ordinary low (le-or-lt 1 (b / 2 ^ 52
     fewer : U < 2 ^ (53 + 1022)
     fewer = unit-fewer U (w .most)
 
-    short : (b : ℕ) → digitsOf b < 2 ^ 53
-    short b = omega arith
-
-    field : b / 2 ^ 52 < 1024
-    field = unit-field u h f
+    field-small : field b < 1024
+    field-small = unit-field u h f
 
     -- all digits fall below the point
-    gone : min (1023 - b / 2 ^ 52) 63 ≡ 63 → U < part → U / part ≡ digitsOf b * 1024 / 2 ^ min (1023 - b / 2 ^ 52) 63
-    gone e i = none-below U i ∙ sym (none-left (digitsOf b) (min (1023 - b / 2 ^ 52) 63) (short b) e)
+    gone : min (1023 - field b) 63 ≡ 63 → U < part → U / part ≡ digitsOf b * 1024 / 2 ^ min (1023 - field b) 63
+    gone e i = none-below U i ∙ sym (none-left (digitsOf b) (min (1023 - field b) 63) (digits-most b) e)
 
-    low : b / 2 ^ 52 < 1 → U / part ≡ digitsOf b * 1024 / 2 ^ min (1023 - b / 2 ^ 52) 63
+    low : field b < 1 → U / part ≡ digitsOf b * 1024 / 2 ^ min (1023 - field b) 63
     low l =
         let z : b < 2 ^ 52 = under b l in
-        gone (min-eq-right (far (b / 2 ^ 52) l)) (small-units U b 0 (units-of-low-bits u U f v z ∙ sym (mul-one b)) (omega arith) (omega arith))
+        gone (min-eq-right (far (field b) l)) (small-units U b 0 (units-of-low-bits u U f v z ∙ sym (mul-one b)) (omega arith) (omega arith))
       where
-        under : (b : ℕ) → b / 2 ^ 52 < 1 → b < 2 ^ 52
+        under : (b : ℕ) → field b < 1 → b < 2 ^ 52
         under b l = omega arith
 
         far : (k : ℕ) → k < 1 → 63 ≤ 1023 - k
         far k l = omega arith
 
-    ordinary : 1 ≤ b / 2 ^ 52 → U / part ≡ digitsOf b * 1024 / 2 ^ min (1023 - b / 2 ^ 52) 63
-    ordinary l = ⊎-elim kept lost (le-or-lt (1023 - b / 2 ^ 52) 63)
+    ordinary : 1 ≤ field b → U / part ≡ digitsOf b * 1024 / 2 ^ min (1023 - field b) 63
+    ordinary l = ⊎-elim kept lost (le-or-lt (1023 - field b) 63)
       where
-        is : U ≡ digitsOf b * 2 ^ (b / 2 ^ 52 - 1)
+        is : U ≡ digitsOf b * 2 ^ (field b - 1)
         is = units-of-bits u U 1022 f v fewer (lit< tt) l
 
-        kept : 1023 - b / 2 ^ 52 ≤ 63 → U / part ≡ digitsOf b * 1024 / 2 ^ min (1023 - b / 2 ^ 52) 63
-        kept i = rw (min-eq-left i) (shifted U (digitsOf b) (b / 2 ^ 52 - 1) (1023 - b / 2 ^ 52) is (together (b / 2 ^ 52) l field))
+        kept : 1023 - field b ≤ 63 → U / part ≡ digitsOf b * 1024 / 2 ^ min (1023 - field b) 63
+        kept i = rw (min-eq-left i) (shifted U (digitsOf b) (field b - 1) (1023 - field b) is (together (field b) l field-small))
           where
             together : (k : ℕ) → 1 ≤ k → k < 1024 → k - 1 + (1023 - k) ≡ 1022
             together k l m = omega arith
 
-        lost : 63 < 1023 - b / 2 ^ 52 → U / part ≡ digitsOf b * 1024 / 2 ^ min (1023 - b / 2 ^ 52) 63
-        lost i = gone (min-eq-right (le-of-lt i)) (small-units U (digitsOf b) (b / 2 ^ 52 - 1) is (short b) (beyond (b / 2 ^ 52) i))
+        lost : 63 < 1023 - field b → U / part ≡ digitsOf b * 1024 / 2 ^ min (1023 - field b) 63
+        lost i = gone (min-eq-right (le-of-lt i)) (small-units U (digitsOf b) (field b - 1) is (digits-most b) (beyond (field b) i))
           where
             beyond : (k : ℕ) → 63 < 1023 - k → k - 1 ≤ 959
             beyond k i = omega arith

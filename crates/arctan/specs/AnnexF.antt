@@ -5,9 +5,10 @@ use mathlib.Core.Path.{_≡_}
 use mathlib.Core.Bool.{Bool, true, false, cond}
 use Prim.Native.Nat.{ℕ, suc}
 use lib.IntN.{ℤ, pos, negsuc}
-use lib.Ieee.{Float, nan, inf, fin, binary64, ofBits, neg, mul, div, lt}
+use lib.Ieee.{Float, nan, inf, fin, binary64, neg, mul, div, lt}
 use Rattle.scalar.specs.Angles.{tau, pi, fracPi2}
-use Rattle.arctan.specs.Rule.{zero64, quarter-pi, three-quarters-pi}
+use Rattle.laws.specs.Literal.{zero, two, three, four}
+use Rattle.arctan.specs.Rule.{quarter-pi, three-quarters-pi}
 
 -- ±0, and ±x: - where s
 abbrev pub zeroOf : Bool → Float
@@ -22,11 +23,11 @@ pub record AnnexF (atan2 : Float → Float → Float) : Type 0 where
   pub zero-minus-zero : (s : Bool) → atan2 (zeroOf s) (zeroOf true) ≡ signed s pi
   pub zero-plus-zero : (s : Bool) → atan2 (zeroOf s) (zeroOf false) ≡ zeroOf s
   -- atan2(±0, x) is ±PI for x < 0, and ±0 for x > 0
-  pub zero-left : (s : Bool) (x : Float) → lt x zero64 ≡ true → atan2 (zeroOf s) x ≡ signed s pi
-  pub zero-right : (s : Bool) (x : Float) → lt zero64 x ≡ true → atan2 (zeroOf s) x ≡ zeroOf s
+  pub zero-left : (s : Bool) (x : Float) → lt x zero ≡ true → atan2 (zeroOf s) x ≡ signed s pi
+  pub zero-right : (s : Bool) (x : Float) → lt zero x ≡ true → atan2 (zeroOf s) x ≡ zeroOf s
   -- atan2(y, ±0) is -FRAC_PI_2 for y < 0, and FRAC_PI_2 for y > 0
-  pub below-zero : (t : Bool) (y : Float) → lt y zero64 ≡ true → atan2 y (zeroOf t) ≡ neg fracPi2
-  pub above-zero : (t : Bool) (y : Float) → lt zero64 y ≡ true → atan2 y (zeroOf t) ≡ fracPi2
+  pub below-zero : (t : Bool) (y : Float) → lt y zero ≡ true → atan2 y (zeroOf t) ≡ neg fracPi2
+  pub above-zero : (t : Bool) (y : Float) → lt zero y ≡ true → atan2 y (zeroOf t) ≡ fracPi2
   -- atan2(±y, -infinity) is ±PI, and atan2(±y, +infinity) is ±0, for finite y > 0
   pub far-left : (s : Bool) (m : ℕ) (e : ℤ) → atan2 (fin s (suc m) e) (inf true) ≡ signed s pi
   pub far-right : (s : Bool) (m : ℕ) (e : ℤ) → atan2 (fin s (suc m) e) (inf false) ≡ zeroOf s
@@ -38,15 +39,6 @@ pub record AnnexF (atan2 : Float → Float → Float) : Type 0 where
   -- "the arctangent with a NaN" is "the NaN above"
   pub nan-y : (x : Float) → atan2 nan x ≡ nan
   pub nan-x : (y : Float) → atan2 y nan ≡ nan
-
-abbrev two : Float
-two = ofBits binary64 0x4000000000000000
-
-abbrev three : Float
-three = ofBits binary64 0x4008000000000000
-
-abbrev four : Float
-four = ofBits binary64 0x4010000000000000
 
 -- The constants: PI and FRAC_PI_2 are TAU's half and quarter; a quarter of PI has the digits of PI, two places lower, so it is exact; three quarters are 3 times it, rounded once.
 pub record Constants : Type 0 where

@@ -5,6 +5,7 @@ use Prim.Native.Nat.{ℕ, _+_, _-_, _*_, _/_, _%_, _^_}
 use lib.IntN.{pos}
 use lib.Ieee.{Float, nan, binary64, isNan, ofBits, neg, mul, div, lt, toUnsigned, ofInt}
 use Rattle.scalar.specs.Angles.{pi, fracPi2}
+use Rattle.laws.specs.Literal.{zero}
 use Rattle.laws.specs.Kind.{negative, isInfinite, isZero, isOrdinary}
 use Rattle.fixed.specs.High.{high}
 use Rattle.fixed.specs.Size.{sizeOf}
@@ -12,9 +13,6 @@ use Rattle.arctan.specs.declared.table.Row.{Row}
 use Rattle.arctan.specs.Rows.{rowAt}
 
 -- ---- "a quarter of PI being exact and three quarters being 3 times that, rounded once."
-abbrev pub zero64 : Float
-zero64 = ofBits binary64 0
-
 abbrev pub quarter-pi : Float
 quarter-pi = ofBits binary64 0x3fe921fb54442d18
 
@@ -75,14 +73,14 @@ abbrev pub turnedOf : Bool → ℕ → ℕ
 turnedOf steep n = lessOf steep 3622009729038561280 n
 
 abbrev pub facedOf : Float → ℕ → ℕ
-facedOf x n = lessOf (lt x zero64) 7244019458077122560 n
+facedOf x n = lessOf (lt x zero) 7244019458077122560 n
 
 -- n / 2 ^ 61
 unfoldable pub floatOf : ℕ → Float
 floatOf n = mul binary64 (ofInt binary64 (pos n)) (ofBits binary64 0x3c20000000000000)
 
 abbrev pub signedOf : Float → Float → Float
-signedOf y c = cond (lt y zero64) (neg c) c
+signedOf y c = cond (lt y zero) (neg c) c
 
 unfoldable pub angleOf : Float → Float → Bool → Float → Float
 unfolding arcOf floatOf
@@ -93,7 +91,7 @@ unfoldable pub edgeSize : Float → Float → Float
 edgeSize y x =
     cond (isInfinite y)
     (cond (isInfinite x) (cond (negative x) three-quarters-pi quarter-pi) fracPi2)
-    (cond (isInfinite x || isZero y) (cond (negative x) pi zero64) fracPi2)
+    (cond (isInfinite x || isZero y) (cond (negative x) pi zero) fracPi2)
 
 unfoldable pub edgeOf : Float → Float → Float
 unfolding edgeSize
@@ -114,7 +112,7 @@ ratio y x = div binary64 (smaller y x) (larger y x)
 
 -- "If x is above 0 and y/x is below 2^-26 in size, it is y/x."
 abbrev pub slight : Float → Float → Bool
-slight y x = lt zero64 x && lt (sizeOf (div binary64 y x)) tiny
+slight y x = lt zero x && lt (sizeOf (div binary64 y x)) tiny
 
 unfoldable pub arctangent : Float → Float → Float
 unfolding ratio angleOf edgeOf

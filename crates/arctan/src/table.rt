@@ -1,4 +1,4 @@
-// The arctangent's table, written by tools/table.py.
+// The arctangent's table, written by crates/arctan_table/tools/table.py.
 
 ghost use mathlib.Core.Path.{_≡_};
 ghost use Rattle.arctan.specs.Rows.{rowAt};

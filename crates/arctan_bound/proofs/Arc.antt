@@ -3,7 +3,9 @@ use mathlib.Core.Path.{_≡_, refl, sym, _∙_, ap, subst}
 use mathlib.Core.Bool.{false}
 use mathlib.Core.List.{List, [], _∷_}
 use Prim.Native.Nat.{ℕ, zero, suc, _+_, _*_, _/_, _%_, _≤_, _<_, _^_}
-use native.Mathlib.Nat.{mul-add, add-mul, mul-assoc, mul-comm, mul-left-comm, mul-right-comm, zero-mul, zero-add, mul-pos, mul-le-mul, mul-le-mul-left, mul-le-mul-right, le-trans, le-of-lt, div-add-mod', div-lt-iff-lt-mul, mod-lt, min-eq-left, pow-suc, pow-succ'}
+use native.Mathlib.Nat.{one-le-pow, mul-add, add-mul, mul-assoc, mul-comm, mul-left-comm, mul-right-comm, zero-mul, zero-add, mul-pos, mul-le-mul}
+use native.Mathlib.Nat.{mul-le-mul-left, mul-le-mul-right, le-trans, le-of-lt, div-add-mod', div-lt-iff-lt-mul, mod-lt, min-eq-left}
+use native.Mathlib.Nat.{pow-suc, pow-succ'}
 use native.Mathlib.Omega.{arith}
 use lib.Dec.{T, lit<, lit≤}
 use lib.Ieee.{Float, binary64, fits}
@@ -26,7 +28,7 @@ use Rattle.arctan_table.specs.Euler as exact
 use Rattle.arctan_table.proofs.Quotient.{top, bottom}
 use Rattle.arctan_table.proofs.Euler.{euler-quotient}
 use Rattle.arctan_table.proofs.Rows.{coefList, added, taken, each, scaleOf}
-use Rattle.arctan_table.proofs.Row.{row-law, RowLaw, addedAt, takenAt, mul-power, power-pos}
+use Rattle.arctan_table.proofs.Row.{row-law, RowLaw, addedAt, takenAt, mul-power}
 use Rattle.arctan_bound.proofs.Horner.{series-near}
 use Rattle.arctan_bound.proofs.Converted.{grain, tick-grain}
 
@@ -83,7 +85,7 @@ terms-pos zero n a b h = lit< tt
 terms-pos (suc k) n a b h =
     let i = mul-pos h h in
     let w : 0 < a * a + b * b = omega arith in
-    mul-pos (mul-pos (factorial-pos (2 * n + 1)) (power-pos (a * a + b * b) (n + 1) w)) (terms-pos k (suc n) a b h)
+    mul-pos (mul-pos (factorial-pos (2 * n + 1)) (one-le-pow (n + 1) (a * a + b * b) w)) (terms-pos k (suc n) a b h)
 
 -- the series in units
 follow-near : (t W h q A B : ℕ) → t ≡ 256 * h → Near (292 * W) (q * W) (0 * W) (256 * A) (256 * B) → Near (24 * t * W) (q * h * W) (0 * W) (A * t) (B * t)
@@ -134,7 +136,7 @@ conclude U p m last f =
     subst (λ (x : ℕ). Near (at-U .off) (9007199254740992 * (x ^ 9 * N)) 0 (value 9 (addedAt j) z x * B) (value 9 (takenAt j) z x * B)) o (at-U .near) in
     let small : 140737488355328 * at-U .off ≤ 9007199254740992 * (one ^ 9 * B) =
     subst (λ (x : ℕ). 140737488355328 * at-U .off ≤ 9007199254740992 * (x ^ 9 * B)) o (at-U .small) in
-    let q = join tick one (one ^ 9) N B (value 9 (addedAt j) z one) (value 9 (takenAt j) z one) p m (at-U .off) refl (power-pos one 9 one-pos) small v f in
+    let q = join tick one (one ^ 9) N B (value 9 (addedAt j) z one) (value 9 (takenAt j) z one) p m (at-U .off) refl (one-le-pow 9 one one-pos) small v f in
     over-terms tick one N B p m (s .top) (s .bottom) (at-U .some) (euler-quotient U cell) q
 
 -- ---- the rule's series
@@ -167,7 +169,9 @@ arc-near u i t =
       units = U;
       value = w .value;
       near =
-          subst (λ (x : ℕ). Near (88 * tick * terms 64 0 U (32 * cell) .bottom) (x * grain * terms 64 0 U (32 * cell) .bottom) (0 * terms 64 0 U (32 * cell) .bottom) (one * terms 64 0 U (32 * cell) .top) 0)
+          subst
+          (λ (x : ℕ). Near (88 * tick * terms 64 0 U (32 * cell) .bottom) (x * grain * terms 64 0 U (32 * cell) .bottom)
+          (0 * terms 64 0 U (32 * cell) .bottom) (one * terms 64 0 U (32 * cell) .top) 0)
           (sym (arc-is u n j (w .place) (w .row) (w .last))) (conclude U (q * grain) 0 (w .last) f);
     }
   where

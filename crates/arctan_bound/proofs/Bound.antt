@@ -10,6 +10,7 @@ use lib.Ieee.{Float, nan, inf, fin, binary64, up, down, fits, ofBits, ofFields, 
 use lib.Ieee.Exact.{HasValue}
 use lib.Ieee.Bits.{is-true}
 use lib.Ieee.Fits.{down-pos, and-i, and-l, and-r}
+use Rattle.laws.specs.Literal.{zero}
 use Rattle.series.specs.Near.{Near}
 use Rattle.series.proofs.Nears.{near-scale, near-wider, near-swap}
 use Rattle.laws.specs.Units.{tick, one, Is}
@@ -18,7 +19,7 @@ use Rattle.laws.proofs.Units.{one-is, tick-pos, is-plus, one-pos, neg-is}
 use Rattle.laws.proofs.Logic.{not-true}
 use Rattle.fixed.specs.Size.{sizeOf}
 use Rattle.scalar.specs.Angles.{fracPi2, pi}
-use Rattle.arctan.specs.Rule.{zero64, tiny, steepOf, ratio, placeOf, arcOf, lessOf, turnedOf, facedOf, floatOf, angleOf, arctangent}
+use Rattle.arctan.specs.Rule.{tiny, steepOf, ratio, placeOf, arcOf, lessOf, turnedOf, facedOf, floatOf, angleOf, arctangent}
 use Rattle.arctan.proofs.Steps.{turned-small, faced-small}
 use Rattle.arctan.proofs.Fit.{units-small}
 use Rattle.arctan.proofs.Tests.{tested, tested-is}
@@ -59,7 +60,9 @@ less-near e o b pl mi c g n r re v =
     let y₄ = zero-mul (o * b) in
     let z₁ : r * g * (o * b) + n * g * (o * b) ≡ c * g * (o * b) =
     sym (add-mul (r * g) (n * g) (o * b)) ∙ ap (λ (z : ℕ). z * (o * b)) (sym (add-mul r n g) ∙ ap (λ (z : ℕ). z * g) re) in
-    let s₁ : o * (c * g * b + o * mi) ≡ c * g * (o * b) + o * mi * o = mul-add o (c * g * b) (o * mi) ∙ (ap (λ (z : ℕ). z + o * (o * mi)) (mul-left-comm o (c * g) b) ∙ ap (λ (z : ℕ). c * g * (o * b) + z) (mul-comm o (o * mi))) in
+    let s₁ : o * (c * g * b + o * mi) ≡ c * g * (o * b) + o * mi * o =
+    mul-add o (c * g * b) (o * mi) ∙
+    (ap (λ (z : ℕ). z + o * (o * mi)) (mul-left-comm o (c * g) b) ∙ ap (λ (z : ℕ). c * g * (o * b) + z) (mul-comm o (o * mi))) in
     let s₂ : o * (o * pl) ≡ o * pl * o = mul-comm o (o * pl) in
     record { above = omega arith; below = omega arith }
 
@@ -196,7 +199,14 @@ tiny-units (fin false m e) g v h =
     let j : m * up e * 67108864 ≤ down e = omega arith in
     let k : m * up e * 67108864 * one ≤ down e * one = mul-le-mul-right one j in
     let l : 67108864 * g * down e ≤ one * down e =
-    omega (arith, mul-right-comm (m * up e) 67108864 one, ap (λ (z : ℕ). z * 67108864) (v .1), mul-right-comm g (down e) 67108864, ap (λ (z : ℕ). z * down e) (mul-comm g 67108864), mul-comm (down e) one) in
+    omega (
+      arith,
+      mul-right-comm (m * up e) 67108864 one,
+      ap (λ (z : ℕ). z * 67108864) (v .1),
+      mul-right-comm g (down e) 67108864,
+      ap (λ (z : ℕ). z * down e) (mul-comm g 67108864),
+      mul-comm (down e) one,
+    ) in
     le-of-mul-le-mul-right l (down-pos e)
 
 plain : (t s : Bool) (q h : ℕ) (x : Angle) → t ≡ false → s ≡ false → choose s (less h (choose t (less q x) x)) (choose t (less q x) x) ≡ x
@@ -230,15 +240,15 @@ slight-holds : (y x : Float) → tested y x ≡ true → T (quick y x) → Holds
 unfolding ratio sizeOf
 slight-holds y x g h =
     let steep = steepOf y x in
-    let i = and-r (not steep) (lt zero64 x && lt (ratio y x) tiny) h in
-    let e : steep ≡ false = not-true steep (T-not steep (and-l (not steep) (lt zero64 x && lt (ratio y x) tiny) h)) in
-    let f : lt x zero64 ≡ false = not-below-zero x (and-l (lt zero64 x) (lt (ratio y x) tiny) i) in
-    let u : ratio y x ≡ div binary64 (sizeOf y) x = flat steep (lt x zero64) x (sizeOf y) e f in
+    let i = and-r (not steep) (lt zero x && lt (ratio y x) tiny) h in
+    let e : steep ≡ false = not-true steep (T-not steep (and-l (not steep) (lt zero x && lt (ratio y x) tiny) h)) in
+    let f : lt x zero ≡ false = not-below-zero x (and-l (lt zero x) (lt (ratio y x) tiny) i) in
+    let u : ratio y x ≡ div binary64 (sizeOf y) x = flat steep (lt x zero) x (sizeOf y) e f in
     let w : Holds (div binary64 (sizeOf y) x) (seriesOf y x) 104 =
-    subst (λ (r : Float). Holds r (seriesOf y x) 104) u (own-series y x g (and-r (lt zero64 x) (lt (ratio y x) tiny) i)) in
-    let p = plain steep (lt x zero64) (unitsOf fracPi2) (unitsOf pi) (seriesOf y x) e f in
-    subst (λ (r : Float). Holds r (exactAngle y x) 104) (signed-quotient (lt y zero64) y x)
-    (sign (lt y zero64) (div binary64 (sizeOf y) x) (faced y x) (subst (λ (a : Angle). Holds (div binary64 (sizeOf y) x) a 104) (sym p) w))
+    subst (λ (r : Float). Holds r (seriesOf y x) 104) u (own-series y x g (and-r (lt zero x) (lt (ratio y x) tiny) i)) in
+    let p = plain steep (lt x zero) (unitsOf fracPi2) (unitsOf pi) (seriesOf y x) e f in
+    subst (λ (r : Float). Holds r (exactAngle y x) 104) (signed-quotient (lt y zero) y x)
+    (sign (lt y zero) (div binary64 (sizeOf y) x) (faced y x) (subst (λ (a : Angle). Holds (div binary64 (sizeOf y) x) a 104) (sym p) w))
 
 -- ---- where the series is
 angle-holds : (y x : Float) → tested y x ≡ true → Holds (angleOf y x (steepOf y x) (ratio y x)) (exactAngle y x) 104
@@ -249,9 +259,9 @@ angle-holds y x g =
     let n≤ = arc-small (ratio y x) in
     let m≤ = turned-small (steepOf y x) n n≤ in
     let b = turn (steepOf y x) fracPi2 3622009729038561280 n (seriesOf y x) quarter-is (at-most n 2558044588346441728 3622009729038561280 n≤ (lit≤ tt)) (first y x g) in
-    let c = turn (lt x zero64) pi 7244019458077122560 m (turned y x) half-is (at-most m 3622009729038561280 7244019458077122560 m≤ (lit≤ tt)) b in
-    let d = float-holds (facedOf x m) 88 (faced y x) (at-most (facedOf x m) 7244019458077122560 8646911284551352320 (faced-small (lt x zero64) m m≤) (lit≤ tt)) c in
-    sign (lt y zero64) (floatOf (facedOf x m)) (faced y x) d
+    let c = turn (lt x zero) pi 7244019458077122560 m (turned y x) half-is (at-most m 3622009729038561280 7244019458077122560 m≤ (lit≤ tt)) b in
+    let d = float-holds (facedOf x m) 88 (faced y x) (at-most (facedOf x m) 7244019458077122560 8646911284551352320 (faced-small (lt x zero) m m≤) (lit≤ tt)) c in
+    sign (lt y zero) (floatOf (facedOf x m)) (faced y x) d
   where
     at-most : (a b c : ℕ) → a ≤ b → b ≤ c → a ≤ c
     at-most a b c h i = omega arith

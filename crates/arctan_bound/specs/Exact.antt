@@ -6,10 +6,11 @@ use mathlib.Core.Bool.{Bool, true, false}
 use Prim.Native.Nat.{ℕ, _+_, _*_, _/_, _≤_, _^_}
 use lib.Dec.{T}
 use lib.Ieee.{Float, nan, inf, fin, binary64, up, down, fits, lt}
+use Rattle.laws.specs.Literal.{zero}
 use Rattle.laws.specs.Kind.{isOrdinary}
 use Rattle.arctan_table.specs.Euler.{terms}
 use Rattle.scalar.specs.Angles.{fracPi2, pi}
-use Rattle.arctan.specs.Rule.{zero64, steepOf, ratio}
+use Rattle.arctan.specs.Rule.{steepOf, ratio}
 
 -- ---- the angle
 -- the size of a binary64 number in units of 2 ^ -1074, of which each is a whole number
@@ -45,11 +46,11 @@ turned y x = choose (steepOf y x) (less (unitsOf fracPi2) (seriesOf y x)) (serie
 
 -- "then PI minus that when x is negative"
 abbrev pub faced : Float → Float → Angle
-faced y x = choose (lt x zero64) (less (unitsOf pi) (turned y x)) (turned y x)
+faced y x = choose (lt x zero) (less (unitsOf pi) (turned y x)) (turned y x)
 
 -- "then the sign of y"
 abbrev pub exactAngle : Float → Float → Angle
-exactAngle y x = choose (lt y zero64) (negated (faced y x)) (faced y x)
+exactAngle y x = choose (lt y zero) (negated (faced y x)) (faced y x)
 
 -- ---- "within 2^-44"
 -- a / b differs from the angle by at most 2 ^ -44: both sides are multiplied by 2 ^ 44 and the two denominators

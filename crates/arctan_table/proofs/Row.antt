@@ -2,9 +2,9 @@
 use mathlib.Core.Path.{_≡_, refl, subst}
 use mathlib.Core.List.{List, [], _∷_}
 use Prim.Native.Nat.{ℕ, zero, suc, _+_, _*_, _≤_, _<_, _^_}
-use native.Mathlib.Nat.{mul-assoc, mul-comm, mul-left-comm, mul-one, zero-mul, mul-pos, mul-le-mul-left, mul-le-mul-right, le-refl, le-trans, lt-of-lt-of-le, pow-zero, pow-suc, mul-mul-mul-comm}
+use native.Mathlib.Nat.{one-le-pow, mul-assoc, mul-left-comm, mul-one, zero-mul, mul-pos, mul-le-mul-left, mul-le-mul-right, le-refl, le-trans, lt-of-lt-of-le, pow-zero, pow-suc, mul-mul-mul-comm}
 use native.Mathlib.Omega.{arith}
-use lib.Dec.{leb, leb→le, lit<, lit≤}
+use lib.Dec.{leb, leb→le, lit≤}
 use lib.ListN.{length}
 use lib.Ieee.Fits.{and-l, and-r}
 use Rattle.series.specs.Poly.{eval, plus, scale, times, value, weigh}
@@ -33,10 +33,6 @@ unfolding value first
 first-below n [] a d = rw (zero-mul (d ^ n)) (le-refl 0)
 first-below zero (x ∷ p) a d = rw (pow-zero d, mul-one x) (le-refl x)
 first-below (suc n) (x ∷ p) a d = omega arith
-
-pub power-pos : (d n : ℕ) → 0 < d → 0 < d ^ n
-power-pos d zero h = rw (pow-zero d) (lit< tt)
-power-pos d (suc n) h = rw (pow-suc d n) (mul-pos (power-pos d n h) h)
 
 -- ---- the law
 unfoldable pub addedAt : ℕ → List ℕ
@@ -91,10 +87,12 @@ row-law j a d hj h D =
       off = o * (d ^ 9 * d ^ 128);
       small = tighten o (2 ^ 47) scaleOf (first y) (d ^ 9) (d ^ 128) (value 128 bottom (j * d + a) d) c₂ f;
       near =
-          subst (λ (z : ℕ). Near (o * (d ^ 9 * d ^ 128)) (scaleOf * (d ^ 9 * value 128 top (j * d + a) d)) 0 (z * value 128 bottom (j * d + a) d) (value 9 (each taken l) a (32 * d) * value 128 bottom (j * d + a) d))
+          subst
+          (λ (z : ℕ). Near (o * (d ^ 9 * d ^ 128)) (scaleOf * (d ^ 9 * value 128 top (j * d + a) d)) 0
+          (z * value 128 bottom (j * d + a) d) (value 9 (each taken l) a (32 * d) * value 128 bottom (j * d + a) d))
           (weigh-bottom 9 (each added l) a d)
           (subst (λ (z : ℕ). Near (o * (d ^ 9 * d ^ 128)) (scaleOf * (d ^ 9 * value 128 top (j * d + a) d)) 0 (value 9 kp a d * value 128 bottom (j * d + a) d) (z * value 128 bottom (j * d + a) d))
           (weigh-bottom 9 (each taken l) a d)
           (cell-law 9 128 24 j a d scaleOf top bottom kp km h top-length bottom-length (ten added (coefsAt j)) (ten taken (coefsAt j))));
-      some = lt-of-lt-of-le (mul-pos c₁ (power-pos d 128 D)) f;
+      some = lt-of-lt-of-le (mul-pos c₁ (one-le-pow 128 d D)) f;
     }

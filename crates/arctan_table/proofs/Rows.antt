@@ -57,15 +57,18 @@ rowsClose t b j (suc n) = rowClose t b j (coefsAt j) && rowsClose t b (suc j) n
 
 -- THE TEST of all rows, by elevens: one run of it would take too much memory
 close-0 : rowsClose top bottom 0 11 ≡ true
-unfolding rowsClose rowClose closeBy offBy first scaleOf weigh each coefList added taken coefsAt table top bottom sums grow power square euler eulerFrom odds head headShift times plus gap eval total step scale
+unfolding rowsClose rowClose closeBy offBy first scaleOf weigh each coefList added taken coefsAt table top bottom sums grow power square
+    euler eulerFrom odds head headShift times plus gap eval total step scale
 close-0 = refl
 
 close-11 : rowsClose top bottom 11 11 ≡ true
-unfolding rowsClose rowClose closeBy offBy first scaleOf weigh each coefList added taken coefsAt table top bottom sums grow power square euler eulerFrom odds head headShift times plus gap eval total step scale
+unfolding rowsClose rowClose closeBy offBy first scaleOf weigh each coefList added taken coefsAt table top bottom sums grow power square
+    euler eulerFrom odds head headShift times plus gap eval total step scale
 close-11 = refl
 
 close-22 : rowsClose top bottom 22 11 ≡ true
-unfolding rowsClose rowClose closeBy offBy first scaleOf weigh each coefList added taken coefsAt table top bottom sums grow power square euler eulerFrom odds head headShift times plus gap eval total step scale
+unfolding rowsClose rowClose closeBy offBy first scaleOf weigh each coefList added taken coefsAt table top bottom sums grow power square
+    euler eulerFrom odds head headShift times plus gap eval total step scale
 close-22 = refl
 
 -- ---- what it says of one row

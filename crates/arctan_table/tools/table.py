@@ -13,7 +13,7 @@ number = lambda k, n: str(256 * n + (2**62 if k > 1 else 0))
 coef = lambda n: ("(more %d)" if n >= 0 else "(less %d)") % abs(n)
 fields = ["a%d" % k for k in range(TERMS)]
 
-code = """// The arctangent's table, written by tools/table.py.
+code = """// The arctangent's table, written by crates/arctan_table/tools/table.py.
 
 ghost use mathlib.Core.Path.{_≡_};
 ghost use Rattle.arctan.specs.Rows.{rowAt};
@@ -32,7 +32,7 @@ for j, r in enumerate(rows):
     code += "        %s => Row { %s },\n" % (j if j < ROWS - 1 else "_", body)
 code += "    }\n}\n"
 
-spec = """-- The arctangent's table, written by tools/table.py: in row j, from 0 to 32, the first ten coefficients of Taylor's series of the arctangent at j / 32,
+spec = """-- The arctangent's table, written by crates/arctan_table/tools/table.py: in row j, from 0 to 32, the first ten coefficients of Taylor's series of the arctangent at j / 32,
 -- each the nearest multiple of 2 ^ -53. Definitions only.
 use mathlib.Core.List.{List, [], _∷_}
 use Prim.Native.Nat.{ℕ}
@@ -50,7 +50,7 @@ coefs %s = record { %s }
 unfoldable pub table : List Coefs
 table =
 """ % ("".join("  pub k%d : Coef\n" % k for k in range(TERMS)), "Coef → " * TERMS, " ".join(fields), "; ".join("k%d = a%d" % (k, k) for k in range(TERMS)))
-row = lambda r: "coefs " + " ".join(map(coef, r))
+row = lambda r: "coefs " + " ".join(map(coef, r[:5])) + "\n    " + " ".join(map(coef, r[5:]))
 spec += "".join("    %s ∷\n" % row(r) for r in rows) + "    []\n"
 spec += """
 unfoldable pub coefsAt : ℕ → Coefs
@@ -63,12 +63,12 @@ for path, text in (("arctan/src/table.rt", code), ("arctan_table/specs/Table.ant
     with open(os.path.join(base, path), "w") as f:
         f.write(text)
 
-proof = """-- `arctan::table::look` meets its contract: each arm is the row of its number, and past the arms the number is the last row's or above. Written by tools/table.py. Assumes nothing.
-use mathlib.Core.Path.{_≡_, refl, sym}
-use mathlib.Core.Logic.{⊎-elim}
-use Prim.Native.Nat.{ℕ, suc, _≤_}
-use native.Mathlib.Nat.{eq-or-lt-of-le, min-eq-right}
-use native.Mathlib.Omega.{arith}
+proof = """-- `arctan::table::look` meets its contract: each arm is the row of its number, and past the arms the number is the last row's or above.
+-- Written by crates/arctan_table/tools/table.py. Assumes nothing.
+use mathlib.Core.Path.{_≡_, refl}
+use Prim.Native.Nat.{ℕ}
+use native.Mathlib.Nat.{min-eq-right}
+use Rattle.fixed.proofs.Arms.{past}
 use Rattle.arctan.specs.declared.table.Row.{Row}
 use Rattle.arctan_table.specs.Table.{table, coefsAt}
 use Rattle.arctan.specs.Rows.{plain, raised, rowFrom, rowAt}
@@ -78,26 +78,14 @@ use Rattle.arctan.proofs.table.look.Tie as tie
 at : {j : ℕ} {v : Row} (k : ℕ) → j ≡ k → v ≡ rowAt k → v ≡ rowAt j
 at k e f = rw e f
 
-zero-≤ : (j : ℕ) → 0 ≤ j
-zero-≤ j = omega arith
-
-past : {j : ℕ} (n : ℕ) → n ≤ j → (j ≡ n → ⊥) → suc n ≤ j
-past n h e = ⊎-elim (λ x. absurd (e (sym x))) (λ x. x) (eq-or-lt-of-le h)
-
+pub look-spec : {M : Type 1} → statement M
+unfolding rowAt rowFrom coefsAt table plain raised
+look-spec =
+    tie.close
+    (tie.spec
 """
-names = []
-opened = "unfolding rowAt rowFrom coefsAt table plain raised\n"
-for j in range(ROWS - 1):
-    name = "returns" + ("-%d" % (j + 1) if j else "")
-    names.append(name)
-    proof += "%s : tie.Need-%s\n%s%s c = at %d (c .match .keys%d) refl\n\n" % (name, name, opened, name, j, j + 1)
-last = "(zero-≤ _)"
-for j in range(ROWS - 1):
-    last = "(past %d %s (c .match .rest%s .1))" % (j, last, " .0" * (ROWS - 2 - j))
-name = "returns-%d" % ROWS
-names.append(name)
-proof += "%s : tie.Need-%s\n%s%s c = rw (min-eq-right %s) refl\n\n" % (name, name, opened, name, last)
-proof += "pub look-spec : {M : Type 1} → statement M\nlook-spec = tie.close (tie.spec %s)\n" % " ".join(names)
+proof += "".join("    (λ c. at %d (c .match .keys%d) refl)\n" % (j, j + 1) for j in range(ROWS - 1))
+proof += "    (λ c. rw (min-eq-right (past %d _ (c .match .rest))) refl))\n" % (ROWS - 1)
 os.makedirs(os.path.join(base, "arctan/proofs/table/look"), exist_ok=True)
 with open(os.path.join(base, "arctan/proofs/table/look/Proof.antt"), "w") as f:
     f.write(proof)

@@ -1,8 +1,8 @@
 // The checks of a call, in 01's order: 1 over all its numbers, then 2, 3, 4; and what the calls answer. specs/Answer.antt says the number and the values of each answer.
 ghost use mathlib.Core.Path.{_≡_};
 ghost use mathlib.Core.List.{[], _∷_};
-ghost use lib.Ieee.{inf};
-ghost use mathlib.Core.Bool.{false};
+ghost use lib.Ieee.{inf, lt};
+ghost use mathlib.Core.Bool.{false, not};
 ghost use Rattle.checks.specs.Given.{coordinate, angle, tested, point, arcNumbers};
 ghost use Rattle.checks.specs.Refusal.{refusal, unfaulted};
 ghost use Rattle.checks.specs.Answer.{answered, numberTold, pairTold};
@@ -22,6 +22,13 @@ fn infinity() -> f64
     1.0 / 0.0
 }
 
+// A NaN is not below infinity either.
+fn unreal(size: f64) -> bool
+    ensures { λ r. ⌜ r ≡ not (lt size (inf false)) ⌝ }
+{
+    !(size < infinity())
+}
+
 pub fn none() -> Faults
     ensures { λ r. ⌜ r ≡ unfaulted ⌝ }
 {
@@ -37,7 +44,7 @@ pub fn coordinate(f: Faults, x: f64) -> Faults
 {
     let size = scalar::abs(x);
     Faults {
-        unreal: f.unreal | !(size < infinity()),
+        unreal: f.unreal | unreal(size),
         beyond: f.beyond | (1048576.0 < size),
     }
 }
@@ -47,7 +54,7 @@ pub fn angle(f: Faults, x: f64) -> Faults
 {
     let size = scalar::abs(x);
     Faults {
-        unreal: f.unreal | !(size < infinity()),
+        unreal: f.unreal | unreal(size),
         beyond: f.beyond | (1024.0 < size),
     }
 }

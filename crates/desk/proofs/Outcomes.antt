@@ -67,7 +67,8 @@ module _ (t : Table) (line : ℕ) (room : List Float) (out : List ℕ) where
         none n = omega arith
 
         same : {a a' : Table} {p p' : ℕ} {s s' : Bool} {x x' : List Float} {y y' : List ℕ} → a ≡ a' → p ≡ p' → s ≡ s' → x ≡ x' → y ≡ y'
-            → _≡_ {A = After} (record { answered = record { table = a; printed = p; short = s }; room = x; out = y }) (record { answered = record { table = a'; printed = p'; short = s' }; room = x'; out = y' })
+            → _≡_ {A = After} (record { answered = record { table = a; printed = p; short = s }; room = x; out = y })
+            (record { answered = record { table = a'; printed = p'; short = s' }; room = x'; out = y' })
         same d e f g h = cc
 
     abbrev Keeps : Curve → Type 0

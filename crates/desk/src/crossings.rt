@@ -78,7 +78,8 @@ pub fn query(
     out: &mut [u8],
 ) -> usize
     requires { ⌜ (roomNeed ≤ length (now room)) × (outNeed ≤ length (now out)) ⌝ }
-    ensures { λ r. ⌜ Shows (unless (queryRefusal table i j depth) line (crossed line (curvesOutcome (recordAt table i) (recordAt table j) depth))) (now (room .entry)) (now (out .entry)) r (now (room .exit)) (now (out .exit)) ⌝ }
+    ensures { λ r. ⌜ Shows (unless (queryRefusal table i j depth) line (crossed line (curvesOutcome (recordAt table i) (recordAt table j) depth)))
+        (now (room .entry)) (now (out .entry)) r (now (room .exit)) (now (out .exit)) ⌝ }
 {
     let count = table.count;
     let first = records::held(count, i);

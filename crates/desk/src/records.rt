@@ -3,9 +3,6 @@ ghost use mathlib.Core.Path.{_≡_};
 ghost use mathlib.Core.Bool.{true, false};
 ghost use Prim.Native.Nat.{_<_, _≤_};
 ghost use lib.ListN.{length};
-ghost use Rattle.checks.specs.Given.{tested};
-ghost use Rattle.checks.specs.Refusal.{unfaulted};
-ghost use Rattle.queries.specs.Curves.{curveNumbers};
 ghost use Rattle.digits.specs.Spliced.{Put};
 ghost use Rattle.desk.specs.Table.{most, held, recordAt, stored};
 ghost use Rattle.desk.specs.Refused.{recordRefusal};
@@ -15,7 +12,6 @@ use crate::Answered;
 use crate::MOST;
 use crate::Place;
 use crate::Table;
-use checks::Faults;
 use queries::Curve;
 
 pub fn held(count: usize, k: usize) -> bool
@@ -50,24 +46,11 @@ pub fn store(table: Table, c: Curve) -> Table
     next
 }
 
-fn faults(c: Curve) -> Faults
-    ensures { λ r. ⌜ r ≡ tested unfaulted (curveNumbers c) ⌝ }
-{
-    let f = checks::none();
-    match c {
-        Curve::Segment(x1, y1, x2, y2) => checks::coordinate(
-            checks::coordinate(checks::coordinate(checks::coordinate(f, x1), y1), x2),
-            y2,
-        ),
-        Curve::Bow(a) => checks::arc(f, a),
-    }
-}
-
 fn record_refusal(table: Table, c: Curve) -> u8
     ensures { λ r. ⌜ r ≡ recordRefusal table c ⌝ }
 {
     if table.count < MOST {
-        return checks::refusal(faults(c), 0, 0, 0);
+        return checks::refusal(queries::curve_faults(checks::none(), c), 0, 0, 0);
     }
     9
 }
@@ -75,7 +58,8 @@ fn record_refusal(table: Table, c: Curve) -> u8
 // A record: the table with it, or a refusal.
 pub fn keep(table: Table, c: Curve, line: u64, out: &mut [u8]) -> Answered
     requires { ⌜ outNeed ≤ length (now out) ⌝ }
-    ensures { λ r. ⌜ (r .table ≡ stays (recordRefusal table c) table (stored table c)) × (r .short ≡ false) × Put (now (out .entry)) 0 (unless (recordRefusal table c) line nothing .bytes) (r .printed) (now (out .exit)) ⌝ }
+    ensures { λ r. ⌜ (r .table ≡ stays (recordRefusal table c) table (stored table c)) × (r .short ≡ false)
+        × Put (now (out .entry)) 0 (unless (recordRefusal table c) line nothing .bytes) (r .printed) (now (out .exit)) ⌝ }
 {
     let no = record_refusal(table, c);
     if no == 0 {

@@ -27,7 +27,10 @@ spliced-more l at a b h =
     let front : length (take at l ++ a) ≡ at + length a = length-append (take at l) a ∙ ap (λ (n : ℕ). n + length a) t in
     let rest = drop (at + length a) l in
     ap (λ (x : List ℕ). x ++ b ++ drop (at + length a + length b) (take at l ++ a ++ rest)) (take-at (take at l ++ a) rest (at + length a) front)
-    ∙ ap (λ (x : List ℕ). take at l ++ a ++ b ++ x) (ap (λ (n : ℕ). drop (n + length b) (take at l ++ a ++ rest)) (sym front) ∙ drop-append-add (take at l ++ a) rest (length b) ∙ drop-drop (length b) (at + length a) l)
+    ∙ ap (λ (x : List ℕ). take at l ++ a ++ b ++ x)
+    (ap (λ (n : ℕ). drop (n + length b) (take at l ++ a ++ rest)) (sym front) ∙
+    drop-append-add (take at l ++ a) rest (length b) ∙
+    drop-drop (length b) (at + length a) l)
     ∙ ap (λ (x : List ℕ). x ++ drop (at + length a + length b) l) (append-assoc (take at l) a b)
     ∙ ap (λ (n : ℕ). take at l ++ (a ++ b) ++ drop n l) (more at (length a) (length b) ∙ ap (λ (n : ℕ). at + n) (sym (length-append a b)))
   where

@@ -35,7 +35,8 @@ module _ (a b : Arc) (k : ℕ) where
   unfolding hunted
   hunted-fates = go (early (arcRadii b) (span a))
     where
-      go : (e : Bool) → fates (cond e none (scanned (frame a b) (a .start) (part (span a) (cells k)) (cells k))) ≡ cond e none (scanned (frame a b) (a .start) (part (span a) (cells k)) (cells k)) .brackets
+      go : (e : Bool) →
+          fates (cond e none (scanned (frame a b) (a .start) (part (span a) (cells k)) (cells k))) ≡ cond e none (scanned (frame a b) (a .start) (part (span a) (cells k)) (cells k)) .brackets
       go true = refl
       go false = scanned-fates (frame a b) (a .start) (part (span a) (cells k)) (cells k)
 

@@ -140,7 +140,9 @@ module _ (f : Frame) (start step : Float) where
     | inl e ↦
         let same : i ≡ n = omega arith in
         let at : length (firstCells f start step n) + 0 ≡ i = omega (arith, firstCells-length n) in
-        ap (λ (k : ℕ). getD (firstCells f start step n ++ cell f start step n ∷ []) k other) (sym at) ∙ getD-append-add (firstCells f start step n) (cell f start step n ∷ []) 0 other ∙ ap (cell f start step) (sym same)
+        ap (λ (k : ℕ). getD (firstCells f start step n ++ cell f start step n ∷ []) k other) (sym at) ∙
+        getD-append-add (firstCells f start step n) (cell f start step n ∷ []) 0 other ∙
+        ap (cell f start step) (sym same)
     | inr l ↦
         let less : i < n = omega arith in
         let inside : i < length (firstCells f start step n) = omega (arith, firstCells-length n) in

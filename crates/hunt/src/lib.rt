@@ -34,7 +34,8 @@ pub struct Tally {
 // One cell: the tally goes in and comes back, a hit goes to the room.
 pub fn visit(f: Frame, c: Cell, t: Tally, room: &mut [f64]) -> Tally
     requires { ⌜ Small t × (t .evaluations + 62 < 2 ^ 32) × (t .hits < length (now room) / hitSize) ⌝ }
-    ensures { λ r. ⌜ ((o : Outcome) (lent : List Float) → t ≡ tally o → now (room .entry) ≡ written (o .hits) lent → (r ≡ tally (visit f c o)) × (now (room .exit) ≡ written (visit f c o .hits) lent)) ⌝ }
+    ensures { λ r. ⌜ ((o : Outcome) (lent : List Float) → t ≡ tally o → now (room .entry) ≡ written (o .hits) lent →
+        (r ≡ tally (visit f c o)) × (now (room .exit) ≡ written (visit f c o .hits) lent)) ⌝ }
 {
     let seen = counts::looked(t, 1);
     if bracket(c.g_lo, c.g_hi) {

@@ -29,7 +29,8 @@ fn keep(room: &mut [f64], n: usize, d: Fate)
 // A bracket that was narrowed to the angle `at`: its fate, counted and kept.
 pub fn settle(f: Frame, at: f64, t: Tally, room: &mut [f64]) -> Tally
     requires { ⌜ Small t × (t .hits < length (now room) / hitSize) ⌝ }
-    ensures { λ r. ⌜ ((o : Outcome) (lent : List Float) → t ≡ tally o → now (room .entry) ≡ written (o .hits) lent → (r ≡ tally (settle (fate f (o .hits) at) o)) × (now (room .exit) ≡ written (settle (fate f (o .hits) at) o .hits) lent)) ⌝ }
+    ensures { λ r. ⌜ ((o : Outcome) (lent : List Float) → t ≡ tally o → now (room .entry) ≡ written (o .hits) lent →
+        (r ≡ tally (settle (fate f (o .hits) at) o)) × (now (room .exit) ≡ written (settle (fate f (o .hits) at) o .hits) lent)) ⌝ }
 {
     let d = fate(f, at, room, t.hits);
     keep(room, t.hits, d);

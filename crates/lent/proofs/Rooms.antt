@@ -1,13 +1,14 @@
 -- From what the library tells to what an export gives. Assumes nothing.
 use mathlib.Core.Path.{_≡_, refl, sym, _∙_}
 use mathlib.Core.Bool.{Bool, true, false, cond, _||_, _&&_}
-use mathlib.Core.List.{List, []}
+use mathlib.Core.List.{List, [], _∷_, _++_, append-nil}
 use Prim.Native.Nat.{ℕ, _+_, _*_, _^_, _≤_, _<_}
 use native.Mathlib.Omega.{arith}
 use borrow.Author.Tests.{lt-ltb, le-ltb, eqb-true}
 use lib.Dec.{eqb, ltb, leb}
 use lib.ListN.{length, take, drop, length-take}
-use lib.Ieee.{Float}
+use lib.IntN.{pos}
+use lib.Ieee.{Float, binary64, ofInt}
 use lib.Pow.{pow-pos}
 use Rattle.arc.specs.declared.Arc.{Arc}
 use Rattle.hits.specs.Hit.{hitSize, hitPart}
@@ -24,10 +25,23 @@ use Rattle.lent.specs.Exported.{short, withRoom, NumbersGiven, NumbersOu
 
 -- ---- numbers
 
+module _ {need given : ℕ} {told : Answer} {lent lent' : List Float} where
+  -- numbers alone
+  pub numbers-out : {xs : List Float} → told ≡ record { refusal = 0; numbers = xs; counts = [] } → NumbersGiven need 0 xs lent given lent' → NumbersOut need told lent given lent'
+  unfolding NumbersOut floats
+  numbers-out {xs} e g = rw (e, append-nil xs) g
+
+  -- numbers, and a mark m that was made for the count n
+  pub marked-out : {xs : List Float} {m n : ℕ} → told ≡ record { refusal = 0; numbers = xs; counts = n ∷ [] } → m ≡ n →
+      NumbersGiven need 0 (xs ++ ofInt binary64 (pos m) ∷ []) lent given lent'
+      → NumbersOut need told lent given lent'
+  unfolding NumbersOut floats
+  marked-out e m g = rw (e, ← m) g
+
 -- a refusal gives no number and no other value
-pub none-out : (need n : ℕ) (lent : List Float) → NumbersOut need (refused n) lent (withRoom n (short need (length lent))) lent
+pub refused-out : (need : ℕ) (lent : List Float) {given n : ℕ} {told : Answer} → told ≡ refused n → given ≡ withRoom n (short need (length lent)) → NumbersOut need told lent given lent
 unfolding NumbersOut floats placed
-none-out need n lent = record { refusal = refl; values = go (eqb (withRoom n (short need (length lent))) 0) }
+refused-out need lent {given} e g = rw e (record { refusal = g; values = go (eqb given 0) })
   where
     go : (b : Bool) → lent ≡ cond b lent lent
     go true = refl
@@ -111,7 +125,8 @@ part-short room hits i = go (ltb i hits && leb (i * hitSize + hitSize) (length r
     go false = omega arith
 
 -- ---- NO SECOND OUTCOME of an export with numbers
-pub numbers-given-unique : {need n : ℕ} {numbers lent : List Float} (given given' : ℕ) (after after' : List Float) → NumbersGiven need n numbers lent given after → NumbersGiven need n numbers lent given' after'
+pub numbers-given-unique : {need n : ℕ} {numbers lent : List Float} (given given' : ℕ) (after after' : List Float) →
+    NumbersGiven need n numbers lent given after → NumbersGiven need n numbers lent given' after'
     → (given ≡ given') × (after ≡ after')
 numbers-given-unique given given' after after' p q =
     let same : given ≡ given' = p .refusal ∙ sym (q .refusal) in

@@ -12,42 +12,15 @@ use borrow.Author.Tests.{eq-eqb, ne-eqb}
 use Rattle.line_fields.specs.declared.Field.{Field}
 use Rattle.line_fields.specs.declared.Field.the-variants as field
 use Rattle.line_fields.specs.declared.Four.the-variants as four
+use Rattle.line_fields.specs.declared.Three.{Three}
 use Rattle.line_fields.specs.declared.Three.the-variants as three
 use Rattle.line_fields.specs.declared.Marks.the-variants as marks
 use Rattle.line_fields.specs.Text.{tabbed, Bits, written, mark}
 use Rattle.line_fields.specs.Field.{digitAt}
-use Rattle.line_fields.specs.Fields.{fourOf, fourAt, threeOf, threeAt, marksOf, marksAt}
+use Rattle.line_fields.specs.Fields.{fourAt, threeOf, threeAt, marksOf, marksAt}
 use Rattle.line_fields.proofs.Taken.{digit-taken}
+use Rattle.line_fields.proofs.Triples.{fourFrom, four-at}
 use Rattle.line_fields.proofs.Texts.{Text, Held, number-text, digit-text}
-
--- ---- four numbers
-no-four : {A : Type 0} (x y z w : Float) → four.None ≡ four.Of x y z w → A
-no-four x y z w e = let n : _≡_ {A = ℕ} 0 1 = cc in absurd (omega arith)
-
-four-held : (p q r s : Field) (x y z w : Float) → fourOf p q r s ≡ four.Of x y z w → Held p x × Held q y × Held r z × Held s w
-four-held field.None q r s x y z w e = no-four x y z w e
-four-held (field.Of a) field.None r s x y z w e = no-four x y z w e
-four-held (field.Of a) (field.Of b) field.None s x y z w e = no-four x y z w e
-four-held (field.Of a) (field.Of b) (field.Of c) field.None x y z w e = no-four x y z w e
-four-held (field.Of a) (field.Of b) (field.Of c) (field.Of d) x y z w e =
-    (record { bits = a; read = refl; number = cc }, record { bits = b; read = refl; number = cc }, record { bits = c; read = refl; number = cc }, record { bits = d; read = refl; number = cc })
-
-pub record FourText (line : List ℕ) (at next : ℕ) (x y z w : Float) : Type 0 where
-  pub a : Bits x
-  pub b : Bits y
-  pub c : Bits z
-  pub d : Bits w
-  pub text : (fs : List (List ℕ)) → drop next line ≡ tabbed fs → drop at line ≡ tabbed (written a ∷ written b ∷ written c ∷ written d ∷ fs)
-
-pub four-text : (line : List ℕ) (at next : ℕ) (x y z w : Float) → next ≡ at + 68 → fourAt line at ≡ four.Of x y z w → FourText line at next x y z w
-unfolding fourAt
-four-text line at next x y z w n e =
-    let h = four-held _ _ _ _ x y z w e in
-    let a = number-text line at (at + 17) x refl (h .0) in
-    let b = number-text line (at + 17) (at + 34) y (omega arith) (h .1) in
-    let c = number-text line (at + 34) (at + 51) z (omega arith) (h .2) in
-    let d = number-text line (at + 51) next w (omega arith) (h .3) in
-    record { a = a .number; b = b .number; c = c .number; d = d .number; text = λ fs r. a .text _ (b .text _ (c .text _ (d .text fs r))) }
 
 -- ---- three numbers
 no-three : {A : Type 0} (x y z : Float) → three.None ≡ three.Of x y z → A
@@ -74,6 +47,29 @@ three-text line at next x y z n e =
     let b = number-text line (at + 17) (at + 34) y (omega arith) (h .1) in
     let c = number-text line (at + 34) next z (omega arith) (h .2) in
     record { a = a .number; b = b .number; c = c .number; text = λ fs r. a .text _ (b .text _ (c .text fs r)) }
+
+-- ---- four numbers
+no-four : {A : Type 0} (x y z w : Float) → four.None ≡ four.Of x y z w → A
+no-four x y z w e = let n : _≡_ {A = ℕ} 0 1 = cc in absurd (omega arith)
+
+four-held : (t : Three) (s : Field) (x y z w : Float) → fourFrom t s ≡ four.Of x y z w → (t ≡ three.Of x y z) × Held s w
+four-held three.None s x y z w e = no-four x y z w e
+four-held (three.Of a b c) field.None x y z w e = no-four x y z w e
+four-held (three.Of a b c) (field.Of d) x y z w e = (cc, record { bits = d; read = refl; number = cc })
+
+pub record FourText (line : List ℕ) (at next : ℕ) (x y z w : Float) : Type 0 where
+  pub a : Bits x
+  pub b : Bits y
+  pub c : Bits z
+  pub d : Bits w
+  pub text : (fs : List (List ℕ)) → drop next line ≡ tabbed fs → drop at line ≡ tabbed (written a ∷ written b ∷ written c ∷ written d ∷ fs)
+
+pub four-text : (line : List ℕ) (at next : ℕ) (x y z w : Float) → next ≡ at + 68 → fourAt line at ≡ four.Of x y z w → FourText line at next x y z w
+four-text line at next x y z w n e =
+    let h = four-held _ _ x y z w (rw four-at at e) in
+    let t = three-text line at (at + 51) x y z refl (h .0) in
+    let d = number-text line (at + 51) next w (omega arith) (h .1) in
+    record { a = t .a; b = t .b; c = t .c; d = d .number; text = λ fs r. t .text _ (d .text fs r) }
 
 -- ---- three marks
 record Marked (p : Field) (m : Bool) : Type 0 where
@@ -103,7 +99,9 @@ mark-text line at next m n h =
     let s = digit-taken line at 1 (h .digit) (h .read) .small in
     rw (h .mark, mark-digit (h .digit) s) (digit-text line at next 1 (h .digit) (omega arith) n (h .read))
 
-pub marks-text : (line : List ℕ) (at next : ℕ) (l m n : Bool) (fs : List (List ℕ)) → next ≡ at + 6 → marksAt line at ≡ marks.Of l m n → drop next line ≡ tabbed fs → drop at line ≡ tabbed (mark l ∷ mark m ∷ mark n ∷ fs)
+pub marks-text : (line : List ℕ) (at next : ℕ) (l m n : Bool) (fs : List (List ℕ)) → next ≡ at + 6 →
+    marksAt line at ≡ marks.Of l m n → drop next line ≡ tabbed fs →
+    drop at line ≡ tabbed (mark l ∷ mark m ∷ mark n ∷ fs)
 unfolding marksAt
 marks-text line at next l m n fs k e r =
     let h = marks-held _ _ _ l m n e in

@@ -3,6 +3,7 @@ pub mod Digits
 pub mod Steps
 pub mod Places
 pub mod Taken
+mod Triples
 pub mod Hex
 pub mod Runs
 pub mod Texts

@@ -22,6 +22,7 @@ use Rattle.line_fields.proofs.Digits.{digit-value}
 use Rattle.line_fields.proofs.Places.{number-tab, digit-tab, record-tab}
 use Rattle.line_fields.proofs.Hex.{hex-length, hex-back}
 use Rattle.line_fields.proofs.Runs.{run-read, numeral-digits}
+use Rattle.line_fields.proofs.Triples.{four-at}
 
 module _ (line : List ℕ) (at : ℕ) where
   byte-at : (b : ℕ) (bs : List ℕ) → drop at line ≡ b ∷ bs → getD line at 0 ≡ b
@@ -62,7 +63,8 @@ module _ (line : List ℕ) (at : ℕ) (fs : List (List ℕ)) where
       let v = digit-value d (omega (arith, h .0)) (h .1) in
       rw b (omega (arith, v, h .0, h .1))
 
-  pub record-read : {v : ℕ} (n : RecordNumber v) → drop at line ≡ tabbed (n .digits ∷ fs) → (recordAt line at ≡ numbered.Of v (at + 1 + length (n .digits))) × (drop (at + 1 + length (n .digits)) line ≡ tabbed fs)
+  pub record-read : {v : ℕ} (n : RecordNumber v) → drop at line ≡ tabbed (n .digits ∷ fs) →
+      (recordAt line at ≡ numbered.Of v (at + 1 + length (n .digits))) × (drop (at + 1 + length (n .digits)) line ≡ tabbed fs)
   unfolding runAt
   record-read n e =
       let t = after-tab (n .digits) e in
@@ -82,16 +84,6 @@ mark-back true = refl
 mark-back false = refl
 
 module _ (line : List ℕ) (at next : ℕ) where
-  pub four-read : {x y z w : Float} (a : Bits x) (b : Bits y) (c : Bits z) (d : Bits w) (fs : List (List ℕ)) → next ≡ at + 68 → drop at line ≡ tabbed (written a ∷ written b ∷ written c ∷ written d ∷ fs)
-      → (fourAt line at ≡ four.Of x y z w) × (drop next line ≡ tabbed fs)
-  unfolding fourAt
-  four-read a b c d fs n e =
-      let p = number-read line at _ (at + 17) a refl e in
-      let q = number-read line (at + 17) _ (at + 34) b (omega arith) (p .1) in
-      let r = number-read line (at + 34) _ (at + 51) c (omega arith) (q .1) in
-      let s = number-read line (at + 51) fs next d (omega arith) (r .1) in
-      (rw (p .0, q .0, r .0, s .0, a .number, b .number, c .number, d .number), s .1)
-
   pub three-read : {x y z : Float} (a : Bits x) (b : Bits y) (c : Bits z) (fs : List (List ℕ)) → next ≡ at + 51 → drop at line ≡ tabbed (written a ∷ written b ∷ written c ∷ fs)
       → (threeAt line at ≡ three.Of x y z) × (drop next line ≡ tabbed fs)
   unfolding threeAt
@@ -108,3 +100,11 @@ module _ (line : List ℕ) (at next : ℕ) where
       let q = digit-read line (at + 2) _ (at + 4) 1 (cond m 1 0) (omega arith) (mark-small m) (omega arith) (p .1) in
       let r = digit-read line (at + 4) fs next 1 (cond n 1 0) (omega arith) (mark-small n) (omega arith) (q .1) in
       (rw (p .0, q .0, r .0, mark-back l, mark-back m, mark-back n), r .1)
+
+pub four-read : (line : List ℕ) (at next : ℕ) {x y z w : Float} (a : Bits x) (b : Bits y) (c : Bits z) (d : Bits w) (fs : List (List ℕ)) →
+    next ≡ at + 68 → drop at line ≡ tabbed (written a ∷ written b ∷ written c ∷ written d ∷ fs)
+    → (fourAt line at ≡ four.Of x y z w) × (drop next line ≡ tabbed fs)
+four-read line at next a b c d fs n e =
+    let t = three-read line at (at + 51) a b c _ refl e in
+    let s = number-read line (at + 51) fs next d (omega arith) (t .1) in
+    (rw (four-at, t .0, s .0, d .number), s .1)

@@ -19,7 +19,8 @@ use Rattle.line_fields.specs.Field.{bitsAfter, run, runAt}
 use Rattle.line_fields.proofs.Digits.{digit-of}
 
 -- ---- hex digits
-bits-step : (k v : ℕ) (line : List ℕ) (i : ℕ) → bitsAfter (suc k) v (drop i line) ≡ cond (leb 16 (hexValue (getD line i 0))) field.None (bitsAfter k (v * 16 + hexValue (getD line i 0)) (drop (suc i) line))
+bits-step : (k v : ℕ) (line : List ℕ) (i : ℕ) →
+    bitsAfter (suc k) v (drop i line) ≡ cond (leb 16 (hexValue (getD line i 0))) field.None (bitsAfter k (v * 16 + hexValue (getD line i 0)) (drop (suc i) line))
 unfolding bitsAfter hexValue
 bits-step k v [] nought = refl
 bits-step k v [] (suc i) = refl

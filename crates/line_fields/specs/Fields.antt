@@ -6,6 +6,8 @@ use lib.Dec.{eqb}
 use lib.Ieee.{ofBits, binary64}
 use Rattle.line_fields.specs.declared.Field.{Field}
 use Rattle.line_fields.specs.declared.Field.the-variants as field
+use Rattle.line_fields.specs.declared.fields.Triple.{Triple}
+use Rattle.line_fields.specs.declared.fields.Triple.the-variants as triple
 use Rattle.line_fields.specs.declared.Four.{Four}
 use Rattle.line_fields.specs.declared.Four.the-variants as four
 use Rattle.line_fields.specs.declared.Three.{Three}
@@ -13,6 +15,13 @@ use Rattle.line_fields.specs.declared.Three.the-variants as three
 use Rattle.line_fields.specs.declared.Marks.{Marks}
 use Rattle.line_fields.specs.declared.Marks.the-variants as marks
 use Rattle.line_fields.specs.Field.{numberAt, digitAt}
+
+-- all three fields, or none of them
+abbrev pub tripleOf : Field → Field → Field → Triple
+tripleOf field.None q r = triple.None
+tripleOf (field.Of a) field.None r = triple.None
+tripleOf (field.Of a) (field.Of b) field.None = triple.None
+tripleOf (field.Of a) (field.Of b) (field.Of c) = triple.Of a b c
 
 abbrev pub fourOf : Field → Field → Field → Field → Four
 fourOf field.None q r s = four.None

@@ -3,13 +3,19 @@ ghost use mathlib.Core.Path.{_≡_};
 ghost use Prim.Native.Nat.{_≤_};
 ghost use Rattle.line_fields.specs.Text.{capped};
 ghost use Rattle.line_fields.specs.Field.{bitsAt, numberAt, digitAt, runAt, recordAt};
-ghost use Rattle.line_fields.specs.Fields.{fourAt, threeAt, marksAt};
+ghost use Rattle.line_fields.specs.Fields.{tripleOf, fourAt, threeAt, marksAt};
 use crate::Field;
 use crate::Four;
 use crate::Marks;
 use crate::Numbered;
 use crate::Three;
 use crate::bytes;
+
+// What three fields hold.
+enum Triple {
+    Of(u64, u64, u64),
+    None,
+}
 
 // The number whose 16 hex digits begin at a place.
 fn bits(line: &[u8], at: usize) -> Field
@@ -97,41 +103,31 @@ pub fn record(line: &[u8], at: usize) -> Numbered
     Numbered::None
 }
 
-pub fn four(line: &[u8], at: usize) -> Four
-    requires { ⌜ at ≤ 512 ⌝ }
-    ensures { λ r. ⌜ r ≡ fourAt (now (line .entry)) at ⌝ }
+// All three fields, or none of them.
+fn all_three(p: Field, q: Field, r: Field) -> Triple
+    ensures { λ t. ⌜ t ≡ tripleOf p q r ⌝ }
 {
-    let Field::Of(a) = number(line, at) else {
-        return Four::None;
+    let Field::Of(a) = p else {
+        return Triple::None;
     };
-    let Field::Of(b) = number(line, at + 17) else {
-        return Four::None;
+    let Field::Of(b) = q else {
+        return Triple::None;
     };
-    let Field::Of(c) = number(line, at + 34) else {
-        return Four::None;
+    let Field::Of(c) = r else {
+        return Triple::None;
     };
-    let Field::Of(d) = number(line, at + 51) else {
-        return Four::None;
-    };
-    Four::Of(
-        scalar::from_bits(a),
-        scalar::from_bits(b),
-        scalar::from_bits(c),
-        scalar::from_bits(d),
-    )
+    Triple::Of(a, b, c)
 }
 
 pub fn three(line: &[u8], at: usize) -> Three
     requires { ⌜ at ≤ 512 ⌝ }
     ensures { λ r. ⌜ r ≡ threeAt (now (line .entry)) at ⌝ }
 {
-    let Field::Of(a) = number(line, at) else {
-        return Three::None;
-    };
-    let Field::Of(b) = number(line, at + 17) else {
-        return Three::None;
-    };
-    let Field::Of(c) = number(line, at + 34) else {
+    let Triple::Of(a, b, c) = all_three(
+        number(line, at),
+        number(line, at + 17),
+        number(line, at + 34),
+    ) else {
         return Three::None;
     };
     Three::Of(
@@ -141,17 +137,28 @@ pub fn three(line: &[u8], at: usize) -> Three
     )
 }
 
+pub fn four(line: &[u8], at: usize) -> Four
+    requires { ⌜ at ≤ 512 ⌝ }
+    ensures { λ r. ⌜ r ≡ fourAt (now (line .entry)) at ⌝ }
+{
+    let Three::Of(x, y, z) = three(line, at) else {
+        return Four::None;
+    };
+    let Field::Of(d) = number(line, at + 51) else {
+        return Four::None;
+    };
+    Four::Of(x, y, z, scalar::from_bits(d))
+}
+
 pub fn marks(line: &[u8], at: usize) -> Marks
     requires { ⌜ at ≤ 512 ⌝ }
     ensures { λ r. ⌜ r ≡ marksAt (now (line .entry)) at ⌝ }
 {
-    let Field::Of(a) = digit(line, at, 1) else {
-        return Marks::None;
-    };
-    let Field::Of(b) = digit(line, at + 2, 1) else {
-        return Marks::None;
-    };
-    let Field::Of(c) = digit(line, at + 4, 1) else {
+    let Triple::Of(a, b, c) = all_three(
+        digit(line, at, 1),
+        digit(line, at + 2, 1),
+        digit(line, at + 4, 1),
+    ) else {
         return Marks::None;
     };
     Marks::Of(a == 1, b == 1, c == 1)

@@ -78,7 +78,9 @@ module _ (line : List ℕ) where
         | no h ↦ absurd (n (rw (ne-eqb (length line) 126 h)))
       ]
 
-  query-end : (a b m n : ℕ) (r : Field) → getD line 0 0 ≡ 88 → recordAt line 1 ≡ numbered.Of a m → recordAt line m ≡ numbered.Of b n → digitAt line n 9 ≡ r → Taken (queryEnd line a b n r) → Form line (queryEnd line a b n r)
+  query-end : (a b m n : ℕ) (r : Field) → getD line 0 0 ≡ 88 → recordAt line 1 ≡ numbered.Of a m →
+      recordAt line m ≡ numbered.Of b n → digitAt line n 9 ≡ r → Taken (queryEnd line a b n r) →
+      Form line (queryEnd line a b n r)
   unfolding Form
   query-end a b m n field.None k e f g t = absurd (t refl)
   query-end a b m n (field.Of depth) k e f g t =

@@ -2,7 +2,8 @@
 ghost use mathlib.Core.Path.{_≡_};
 ghost use Prim.Native.Nat.{_≤_};
 ghost use lib.ListN.{length};
-ghost use Rattle.lines.specs.Read.{segment, bow, query, readLine};
+ghost use Rattle.line_fields.specs.Field.{digitAt};
+ghost use Rattle.lines.specs.Read.{segment, bowOf, bow, queryEnd, query, readLine};
 use arc::Arc;
 use arc::Point;
 use line_fields::Field;
@@ -34,31 +35,55 @@ fn segment(line: &[u8]) -> Line
     Line::Malformed
 }
 
+fn bow_of(numbers: Four, turns: Three, marks: Marks) -> Line
+    ensures { λ r. ⌜ r ≡ bowOf numbers turns marks ⌝ }
+{
+    let Four::Of(x, y, radius, radius_b) = numbers else {
+        return Line::Malformed;
+    };
+    let Three::Of(rotation, start, end) = turns else {
+        return Line::Malformed;
+    };
+    let Marks::Of(ccw, closed, is_ellipse) = marks else {
+        return Line::Malformed;
+    };
+    Line::Bow(Arc {
+        center: Point { x: x, y: y },
+        radius: radius,
+        radius_b: radius_b,
+        rotation: rotation,
+        start: start,
+        end: end,
+        ccw: ccw,
+        closed: closed,
+        is_ellipse: is_ellipse,
+    })
+}
+
 // A letter, seven numbers, and three marks, each of one byte after a tab.
 fn bow(line: &[u8]) -> Line
     ensures { λ r. ⌜ r ≡ bow (now (line .entry)) ⌝ }
 {
     if line.len() == 126 {
-        let Four::Of(x, y, radius, radius_b) = fields::four(line, 1) else {
-            return Line::Malformed;
-        };
-        let Three::Of(rotation, start, end) = fields::three(line, 69) else {
-            return Line::Malformed;
-        };
-        let Marks::Of(ccw, closed, is_ellipse) = fields::marks(line, 120) else {
-            return Line::Malformed;
-        };
-        return Line::Bow(Arc {
-            center: Point { x: x, y: y },
-            radius: radius,
-            radius_b: radius_b,
-            rotation: rotation,
-            start: start,
-            end: end,
-            ccw: ccw,
-            closed: closed,
-            is_ellipse: is_ellipse,
-        });
+        return bow_of(
+            fields::four(line, 1),
+            fields::three(line, 69),
+            fields::marks(line, 120),
+        );
+    }
+    Line::Malformed
+}
+
+// The depth is the last field, and its digit the last byte.
+fn query_end(line: &[u8], a: usize, b: usize, n: usize) -> Line
+    requires { ⌜ n ≤ 1024 ⌝ }
+    ensures { λ r. ⌜ r ≡ queryEnd (now (line .entry)) a b n (digitAt (now (line .entry)) n 9) ⌝ }
+{
+    let Field::Of(depth) = fields::digit(line, n, 9) else {
+        return Line::Malformed;
+    };
+    if line.len() == n + 2 {
+        return Line::Query(a, b, depth as u32);
     }
     Line::Malformed
 }
@@ -74,13 +99,7 @@ fn query(line: &[u8]) -> Line
     let Numbered::Of(b, n) = fields::record(line, m) else {
         return Line::Malformed;
     };
-    let Field::Of(depth) = fields::digit(line, n, 9) else {
-        return Line::Malformed;
-    };
-    if line.len() == n + 2 {
-        return Line::Query(a, b, depth as u32);
-    }
-    Line::Malformed
+    query_end(line, a, b, n)
 }
 
 // One line without its newline. Its first byte is S, A or X.

@@ -15,7 +15,10 @@ use Rattle.one_bracket.specs.Fate.{near, double}
 
 pub written-length : (hs : List CurveHit) (lent : List Float) → length (written hs lent) ≡ 4 * length hs + (length lent - 4 * length hs)
 unfolding written
-written-length hs lent = length-append (flat hs) (drop (4 * length hs) lent) ∙ ap (λ (n : ℕ). n + length (drop (4 * length hs) lent)) (flat-length hs) ∙ ap (λ (n : ℕ). 4 * length hs + n) (length-drop (4 * length hs) lent)
+written-length hs lent =
+    length-append (flat hs) (drop (4 * length hs) lent) ∙
+    ap (λ (n : ℕ). n + length (drop (4 * length hs) lent)) (flat-length hs) ∙
+    ap (λ (n : ℕ). 4 * length hs + n) (length-drop (4 * length hs) lent)
 
 -- one more hit fits the room that was lent
 pub lent-fits : (hs : List CurveHit) (lent : List Float) → length hs < length (written hs lent) / hitSize → length hs < length lent / hitSize

@@ -1,7 +1,8 @@
 // Points, tangents, distances and lines (parts 2 and 4).
 ghost use mathlib.Core.Path.{_≡_};
 ghost use Rattle.checks.specs.Answer.{numberTold, pairTold};
-ghost use Rattle.points.specs.Told.{ellipsePointTold, ellipseTangentTold, arcPointAtTold, arcTangentAtTold, arcStartPosTold, arcEndPosTold, pointToSegmentDistTold, projectOntoSegmentTold, lineLineIntersectionTold};
+ghost use Rattle.points.specs.Told.{ellipsePointTold, ellipseTangentTold, arcPointAtTold, arcTangentAtTold, arcStartPosTold};
+ghost use Rattle.points.specs.Told.{arcEndPosTold, pointToSegmentDistTold, projectOntoSegmentTold, lineLineIntersectionTold};
 use arc::Arc;
 use arc::Point;
 use checks::Number;

@@ -29,7 +29,8 @@ fn at(x: f64, y: f64) -> Point
     Point { x: x, y: y }
 }
 
-fn numbers(f: Faults, c: Curve) -> Faults
+// The faults f, and those of the numbers of a curve.
+pub fn curve_faults(f: Faults, c: Curve) -> Faults
     ensures { λ r. ⌜ r ≡ tested f (curveNumbers c) ⌝ }
 {
     match c {
@@ -88,7 +89,7 @@ fn cross(a: Curve, b: Curve, depth: u32, room: &mut [f64]) -> Tally
 pub fn intersect(a: Curve, b: Curve, depth: u32, room: &mut [f64]) -> Hunted
     ensures { λ r. ⌜ Crosses (curvesAsked a b depth) (now (room .entry)) (huntedTold r) (now (room .exit)) ⌝ }
 {
-    let f = numbers(numbers(checks::none(), a), b);
+    let f = curve_faults(curve_faults(checks::none(), a), b);
     let no = checks::refusal(f, depth, need(a, b, depth), room.len());
     if no == 0 {
         return Hunted::Counts(cross(a, b, depth, room));

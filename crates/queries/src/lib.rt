@@ -7,4 +7,5 @@ pub use crossings::intersect_arcs;
 pub use crossings::intersect_segment_arc;
 pub use crossings::intersect_segments;
 pub use curves::Curve;
+pub use curves::curve_faults;
 pub use curves::intersect;

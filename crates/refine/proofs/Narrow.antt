@@ -46,7 +46,8 @@ along-roomy : (d : Bool) (x y z : Float) → T (roomy binary64 x) → T (roomy b
 along-roomy true x y z p q h k = roomy-between binary64 x y z p q h k
 along-roomy false x y z p q h k = roomy-between binary64 z y x q p k h
 
-along-middle : (d : Bool) (x y : Float) → T (fits binary64 x) → T (fits binary64 y) → T (roomy binary64 x) → T (roomy binary64 y) → T (along d x y) → T (along d x (middle x y)) × T (along d (middle x y) y)
+along-middle : (d : Bool) (x y : Float) → T (fits binary64 x) → T (fits binary64 y) → T (roomy binary64 x) →
+    T (roomy binary64 y) → T (along d x y) → T (along d x (middle x y)) × T (along d (middle x y) y)
 along-middle true x y f g p q h = middle-between x y f g p q h
 along-middle false x y f g p q h = let b = middle-between-turned x y f g p q h in (b .1, b .0)
 
@@ -101,7 +102,8 @@ module _ (g : Float → Float) (d : Bool) (a b : Float) (ra : T (roomy binary64 
       test : le (mul binary64 (t .«g_lo») gm) (ofBits binary64 0) ≡ not (isPositive (times (sign (g (t .lo))) (sign gm)))
       test = rw (k .value) (product-sign (g (t .lo)) gm (k .tameLo) tm)
 
-      go : (c : Bool) → le (mul binary64 (t .«g_lo») gm) (ofBits binary64 0) ≡ c → Held g d a b (cond c (record { lo = t .lo; hi = middleOf t; «g_lo» = t .«g_lo» }) (record { lo = middleOf t; hi = t .hi; «g_lo» = g (middleOf t) }))
+      go : (c : Bool) → le (mul binary64 (t .«g_lo») gm) (ofBits binary64 0) ≡ c →
+          Held g d a b (cond c (record { lo = t .lo; hi = middleOf t; «g_lo» = t .«g_lo» }) (record { lo = middleOf t; hi = t .hi; «g_lo» = g (middleOf t) }))
       go true e = record {
         fitsLo = k .fitsLo;
         fitsHi = middle-fits (t .lo) (t .hi);
@@ -124,7 +126,8 @@ module _ (g : Float → Float) (d : Bool) (a b : Float) (ra : T (roomy binary64 
         tameHi = k .tameHi;
         ends =
             rw (straddles-sign gm (g (t .hi)) tm (k .tameHi))
-            (second-half (sign (g (t .lo))) (sign gm) (sign (g (t .hi))) (of-not (isPositive (times (sign (g (t .lo))) (sign gm))) (sym test ∙ e)) (rw (straddles-sign (g (t .lo)) (g (t .hi)) (k .tameLo) (k .tameHi)) at (k .ends)));
+            (second-half (sign (g (t .lo))) (sign gm) (sign (g (t .hi)))
+            (of-not (isPositive (times (sign (g (t .lo))) (sign gm))) (sym test ∙ e)) (rw (straddles-sign (g (t .lo)) (g (t .hi)) (k .tameLo) (k .tameHi)) at (k .ends)));
       }
 
   -- n halvings, of each of which the value at the middle is tame
@@ -134,7 +137,8 @@ module _ (g : Float → Float) (d : Bool) (a b : Float) (ra : T (roomy binary64 
   narrowed-held t k (suc n) h = halved-held (narrowed g n t) (h n (omega arith)) (narrowed-held t k n (λ (j : ℕ) (l : j < n). h j (omega arith)))
 
 -- ---- from a cell whose two values straddle zero, as those of a cell that brackets do
-module _ (g : Float → Float) (d : Bool) (a b : Float) (fa : T (fits binary64 a)) (fb : T (fits binary64 b)) (ra : T (roomy binary64 a)) (rb : T (roomy binary64 b)) (o : T (along d a b)) (ta : T (tame (g a))) (tb : T (tame (g b))) (c : T (straddles (g a) (g b))) where
+module _ (g : Float → Float) (d : Bool) (a b : Float) (fa : T (fits binary64 a)) (fb : T (fits binary64 b)) (ra : T (roomy binary64 a))
+    (rb : T (roomy binary64 b)) (o : T (along d a b)) (ta : T (tame (g a))) (tb : T (tame (g b))) (c : T (straddles (g a) (g b))) where
   opened-held : Held g d a b (opened g a b)
   opened-held = record {
     fitsLo = fa;

@@ -10,8 +10,8 @@ use lib.Pow.{pow-add, pow-pos, pow-mono}
 use lib.Ieee.{Float, binary64, le, lt, fits, ofBits}
 use lib.Ieee.Fits.{sub-fits}
 use lib.Ieee.Scale.{finite}
-use Rattle.laws.specs.Size.{zero, power, abs}
-use Rattle.laws.specs.Literal.{ten⁻¹², ten⁻¹⁵}
+use Rattle.laws.specs.Size.{power, abs}
+use Rattle.laws.specs.Literal.{zero-datum as zero, ten⁻¹², ten⁻¹⁵}
 use Rattle.laws.specs.Rounded.{_⊕_}
 use Rattle.laws.specs.Part.{part, wide}
 use Rattle.laws.proofs.Constants.{zero-bits}
@@ -51,7 +51,9 @@ module _ (a : Arc) (l : Limited a) where
 
   span-small : T (le (abs (span a)) (power 12))
   unfolding span
-  span-small = sub-bounded (cond (a .closed) (a .start ⊕ tau) (a .end)) (a .start) 11 (lit≤ tt) (end-small (a .closed)) (float-trans (abs (a .start)) (power 10) (power 11) (l .start) (power-le 10 11 (lit≤ tt)))
+  span-small =
+      sub-bounded (cond (a .closed) (a .start ⊕ tau) (a .end)) (a .start) 11 (lit≤ tt) (end-small (a .closed))
+      (float-trans (abs (a .start)) (power 10) (power 11) (l .start) (power-le 10 11 (lit≤ tt)))
 
   span-finite : T (finite (span a))
   span-finite = bounded-finite (span a) 12 span-small
@@ -119,7 +121,9 @@ module _ (a : Arc) (l : Limited a) where
         let rx = cut-roomy (a .start) (span a) start-small span-small (cells k) some (small (cells k) (le-refl (cells k))) i (small i (small' i m)) in
         let ry = cut-roomy (a .start) (span a) start-small span-small (cells k) some (small (cells k) (le-refl (cells k))) (suc i) (small (suc i) m) in
         held-kept g (rising a) x y rx ry (narrowed g 60 (opened (cellAt a b k i)))
-        (narrows g (rising a) x y (cut-fits (a .start) (span a) (cells k) i (l .startHeld)) (cut-fits (a .start) (span a) (cells k) (suc i) (l .startHeld)) rx ry (next-along i m) tx ty (bracket-straddles (g x) (g y) tx ty c) 60 (w .middles i m c))
+        (narrows g (rising a) x y (cut-fits (a .start) (span a) (cells k) i (l .startHeld))
+        (cut-fits (a .start) (span a) (cells k) (suc i) (l .startHeld)) rx ry (next-along i m) tx ty
+        (bracket-straddles (g x) (g y) tx ty c) 60 (w .middles i m c))
       where
         small' : (i : ℕ) → i < cells k → i ≤ cells k
         small' i m = omega arith
@@ -171,7 +175,9 @@ module _ (a : Arc) (l : Limited a) where
 
 -- THE DEMAND, for any two levels: the coarser one's values are among the finer one's
 pub finer-never-loses : (a b : Arc) → Limited a → (k k' : ℕ) → k ≤ k' → k' ≤ 7 → (ends a b ≡ false → Worked a b k') → Contained a b k k'
-finer-never-loses a b l k k' p q w = subst (Contained a b k) deep (record { contains = λ (e : ends a b ≡ false). contains a l b e k (k' - k) (rw deep q) (rw deep (w e)); noFewer = go (ends a b) refl })
+finer-never-loses a b l k k' p q w =
+    subst (Contained a b k) deep
+    (record { contains = λ (e : ends a b ≡ false). contains a l b e k (k' - k) (rw deep q) (rw deep (w e)); noFewer = go (ends a b) refl })
   where
     deep : k + (k' - k) ≡ k'
     deep = omega arith

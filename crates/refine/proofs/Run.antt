@@ -27,14 +27,19 @@ run v a nought t h = record { place = a; after = omega arith; before = omega ari
 run v a (suc m) t h =
     let e : a + suc (suc m) ≡ suc (a + suc m) = omega arith in
     go (run v a m (λ (j : ℕ) (k : a ≤ j) (l : j ≤ a + suc m). t j k (omega arith)))
-    (three (v a) (v (a + suc m)) (v (suc (a + suc m))) (t a (omega arith) (omega arith)) (t (a + suc m) (omega arith) (omega arith)) (t (suc (a + suc m)) (omega arith) (omega arith)) (subst (λ (k : ℕ). T (bracket (v a) (v k))) e h))
+    (three (v a) (v (a + suc m)) (v (suc (a + suc m))) (t a (omega arith) (omega arith))
+    (t (a + suc m) (omega arith) (omega arith)) (t (suc (a + suc m)) (omega arith) (omega arith))
+    (subst (λ (k : ℕ). T (bracket (v a) (v k))) e h))
   where
-    go : (T (bracket (v a) (v (a + suc m))) → Found (between v) a (a + suc m)) → T (bracket (v a) (v (a + suc m))) ⊎ T (bracket (v (a + suc m)) (v (suc (a + suc m)))) → Found (between v) a (a + suc (suc m))
+    go : (T (bracket (v a) (v (a + suc m))) → Found (between v) a (a + suc m)) →
+        T (bracket (v a) (v (a + suc m))) ⊎ T (bracket (v (a + suc m)) (v (suc (a + suc m)))) →
+        Found (between v) a (a + suc (suc m))
     go r (inl p) = let f = r p in record { place = f .place; after = f .after; before = omega (arith, f .before); passes = f .passes }
     go r (inr p) = record { place = a + suc m; after = omega arith; before = omega arith; passes = p }
 
 -- THE REFINEMENT: u is every m-th of v's values, and those are tame up to the end of the n-th coarse cell
-pub refines : (u v : ℕ → Float) (m n : ℕ) → 0 < m → ((i : ℕ) → i ≤ n → u i ≡ v (m * i)) → ((j : ℕ) → j ≤ m * n → T (tame (v j))) → (i : ℕ) → i < n → T (between u i) → Found (between v) (m * i) (m * suc i)
+pub refines : (u v : ℕ → Float) (m n : ℕ) → 0 < m → ((i : ℕ) → i ≤ n → u i ≡ v (m * i)) →
+    ((j : ℕ) → j ≤ m * n → T (tame (v j))) → (i : ℕ) → i < n → T (between u i) → Found (between v) (m * i) (m * suc i)
 refines u v nought n P e t i h c = absurd (lt-irrefl 0 P)
 refines u v (suc m) n P e t i h c =
     let k : suc m * suc i ≡ suc m * i + suc m = mul-suc (suc m) i in

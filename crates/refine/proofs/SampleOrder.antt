@@ -12,7 +12,8 @@ use lib.Ieee.Exact.{HasValue}
 use lib.Ieee.Order.{round-mono}
 use lib.Ieee.Scale.{finite}
 use lib.Ieee.Positive.{den, den-pos}
-use Rattle.laws.specs.Size.{zero, power, abs, roomy}
+use Rattle.laws.specs.Literal.{zero-datum as zero}
+use Rattle.laws.specs.Size.{power, abs, roomy}
 use Rattle.laws.specs.Part.{part}
 use Rattle.laws.proofs.Fraction.{plus, less, le→cross, cross→le}
 use Rattle.laws.proofs.Order.{le-trans, le-refl, finite-number}
@@ -59,10 +60,14 @@ step-rounds (inf s) n p P Q = absurd p
 step-rounds (fin s m e) n p P Q = record { sign = s; size = m * up e; makes = makes-own s (m * up e); is = div-whole s m e (ofInt binary64 (pos n)) n P (whole n (≤-trans Q (lit≤ tt))) }
 
 step-above : (span : Float) (n : ℕ) → T (finite span) → 0 < n → n ≤ 2 ^ 20 → T (le zero span) → T (le zero (part span n))
-step-above span n p P Q h = not-below binary64 zero (part span n) (plus span) (less span) (n * den span) (unfold fits in tt) tt (mul-pos P (den-pos span)) (step-rounds span n p P Q) (omega (arith, le→cross zero span tt p h))
+step-above span n p P Q h =
+    not-below binary64 zero (part span n) (plus span) (less span) (n * den span) (unfold fits in tt) tt (mul-pos P (den-pos span))
+    (step-rounds span n p P Q) (omega (arith, le→cross zero span tt p h))
 
 step-below : (span : Float) (n : ℕ) → T (finite span) → 0 < n → n ≤ 2 ^ 20 → T (le span zero) → T (le (part span n) zero)
-step-below span n p P Q h = not-above binary64 zero (part span n) (plus span) (less span) (n * den span) (unfold fits in tt) tt (mul-pos P (den-pos span)) (step-rounds span n p P Q) (omega (arith, le→cross span zero p tt h))
+step-below span n p P Q h =
+    not-above binary64 zero (part span n) (plus span) (less span) (n * den span) (unfold fits in tt) tt (mul-pos P (den-pos span))
+    (step-rounds span n p P Q) (omega (arith, le→cross span zero p tt h))
 
 -- ---- a start and a span of size at most 2^12, cut into n cells
 pub cut-fits : (start span : Float) (n i : ℕ) → T (fits binary64 start) → T (fits binary64 (cut start span n i))
@@ -83,7 +88,9 @@ module _ (start span : Float) (a : T (le (abs start) (power 12))) (b : T (le (ab
 
   pub cut-bounded : (i : ℕ) → i ≤ 2 ^ 20 → T (le (abs (cut start span n i)) (power 34))
   cut-bounded nought h = subst (λ (z : Float). T (le (abs z) (power 34))) (sym (cut-start start span n 0 refl)) (le-trans (abs start) (power 33) (power 34) start-bounded (power-le 33 34 (lit≤ tt)))
-  cut-bounded (suc i) h = subst (λ (z : Float). T (le (abs z) (power 34))) (sym (cut-at start span n (suc i) (omega arith))) (add-bounded start (mul binary64 (part span n) (float (suc i))) 33 (lit≤ tt) start-bounded (offset-bounded (suc i) h))
+  cut-bounded (suc i) h =
+      subst (λ (z : Float). T (le (abs z) (power 34))) (sym (cut-at start span n (suc i) (omega arith)))
+      (add-bounded start (mul binary64 (part span n) (float (suc i))) 33 (lit≤ tt) start-bounded (offset-bounded (suc i) h))
 
   pub cut-roomy : (i : ℕ) → i ≤ 2 ^ 20 → T (roomy binary64 (cut start span n i))
   cut-roomy i h = bounded-roomy (cut start span n i) 34 (lit≤ tt) (cut-bounded i h)
@@ -107,22 +114,26 @@ module _ (start span : Float) (a : T (le (abs start) (power 12))) (b : T (le (ab
   pub cut-rises : T (fits binary64 start) → T (le zero span) → (i : ℕ) → suc i ≤ 2 ^ 20 → T (le (cut start span n i) (cut start span n (suc i)))
   cut-rises f l nought h =
       rw (cut-start start span n 0 refl, cut-at start span n 1 (lit< tt))
-      (add-grows binary64 start (mul binary64 (part span n) (float 1)) f startF (offsetF 1 h) (mul-not-negative binary64 (part span n) (float 1) stepF (floatF 1 h) (step-above span n spanF P Q l) (whole-above 1)))
+      (add-grows binary64 start (mul binary64 (part span n) (float 1)) f startF (offsetF 1 h)
+      (mul-not-negative binary64 (part span n) (float 1) stepF (floatF 1 h) (step-above span n spanF P Q l) (whole-above 1)))
   cut-rises f l (suc i) h =
       let g : suc i ≤ 2 ^ 20 = omega arith in
       rw (cut-at start span n (suc i) (omega arith), cut-at start span n (suc (suc i)) (omega arith))
       (add-mono binary64 start start (mul binary64 (part span n) (float (suc i))) (mul binary64 (part span n) (float (suc (suc i)))) startF startF (offsetF (suc i) g) (offsetF (suc (suc i)) h)
       (le-refl start (finite-number start startF))
-      (mul-mono-right binary64 (part span n) (float (suc i)) (float (suc (suc i))) stepF (floatF (suc i) g) (floatF (suc (suc i)) h) (step-above span n spanF P Q l) (whole-mono (suc i) (suc (suc i)) (omega arith))))
+      (mul-mono-right binary64 (part span n) (float (suc i)) (float (suc (suc i))) stepF
+      (floatF (suc i) g) (floatF (suc (suc i)) h) (step-above span n spanF P Q l) (whole-mono (suc i) (suc (suc i)) (omega arith))))
 
   -- and falling
   pub cut-falls : T (fits binary64 start) → T (le span zero) → (i : ℕ) → suc i ≤ 2 ^ 20 → T (le (cut start span n (suc i)) (cut start span n i))
   cut-falls f l nought h =
       rw (cut-start start span n 0 refl, cut-at start span n 1 (lit< tt))
-      (add-shrinks binary64 start (mul binary64 (part span n) (float 1)) f startF (offsetF 1 h) (mul-not-positive binary64 (part span n) (float 1) stepF (floatF 1 h) (step-below span n spanF P Q l) (whole-above 1)))
+      (add-shrinks binary64 start (mul binary64 (part span n) (float 1)) f startF (offsetF 1 h)
+      (mul-not-positive binary64 (part span n) (float 1) stepF (floatF 1 h) (step-below span n spanF P Q l) (whole-above 1)))
   cut-falls f l (suc i) h =
       let g : suc i ≤ 2 ^ 20 = omega arith in
       rw (cut-at start span n (suc i) (omega arith), cut-at start span n (suc (suc i)) (omega arith))
       (add-mono binary64 start start (mul binary64 (part span n) (float (suc (suc i)))) (mul binary64 (part span n) (float (suc i))) startF startF (offsetF (suc (suc i)) h) (offsetF (suc i) g)
       (le-refl start (finite-number start startF))
-      (mul-anti-right binary64 (part span n) (float (suc i)) (float (suc (suc i))) stepF (floatF (suc i) g) (floatF (suc (suc i)) h) (step-below span n spanF P Q l) (whole-mono (suc i) (suc (suc i)) (omega arith))))
+      (mul-anti-right binary64 (part span n) (float (suc i)) (float (suc (suc i))) stepF
+      (floatF (suc i) g) (floatF (suc (suc i)) h) (step-below span n spanF P Q l) (whole-mono (suc i) (suc (suc i)) (omega arith))))

@@ -94,4 +94,9 @@ short-step s m e h =
 pub span-wide : (span : Float) → T (finite span) → T (not (lt (abs (part span 256)) ten⁻¹⁵)) → T (le wide (abs span))
 span-wide nan p h = absurd p
 span-wide (inf s) p h = absurd p
-span-wide (fin s m e) p h = elim (lt-or-le (abs (fin s m e)) wide (unfold lib.Ieee.isNan abs in tt) (unfold lib.Ieee.isNan in tt)) [ inl l ↦ absurd (T-not (lt (abs (part (fin s m e) 256)) ten⁻¹⁵) h (short-step s m e l)) | inr g ↦ g ]
+span-wide (fin s m e) p h =
+    elim (lt-or-le (abs (fin s m e)) wide (unfold lib.Ieee.isNan abs in tt) (unfold lib.Ieee.isNan in tt)) [
+      | inl l ↦ absurd
+          (T-not (lt (abs (part (fin s m e) 256)) ten⁻¹⁵) h (short-step s m e l))
+      | inr g ↦ g
+    ]

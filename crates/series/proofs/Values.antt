@@ -2,7 +2,8 @@
 use mathlib.Core.Path.{_≡_, refl, sym, _∙_, ap}
 use mathlib.Core.List.{List, [], _∷_}
 use Prim.Native.Nat.{ℕ, zero, suc, _+_, _*_, _≤_, _^_}
-use native.Mathlib.Nat.{add-zero, zero-add, suc-add, mul-zero, zero-mul, mul-add, add-mul, mul-assoc, mul-left-comm, mul-comm, pow-zero, pow-suc, pow-succ', one-mul, mul-one, mul-le-mul, mul-mul-mul-comm}
+use native.Mathlib.Nat.{add-zero, zero-add, suc-add, mul-zero, zero-mul, mul-add, add-mul, mul-assoc, mul-left-comm, mul-comm, pow-zero}
+use native.Mathlib.Nat.{pow-suc, pow-succ', one-mul, mul-one, mul-le-mul, mul-mul-mul-comm}
 use native.Mathlib.Omega.{arith}
 use lib.ListN.{length}
 use Rattle.series.specs.Poly.{plus, scale, times, total, value, weigh}

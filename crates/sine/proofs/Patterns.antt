@@ -1,8 +1,9 @@
 -- A number from its pattern: its digits moved up are its value at a power of two. Assumes nothing.
 use mathlib.Core.Path.{_≡_, refl, sym, _∙_, ap, subst}
 use mathlib.Core.Bool.{false}
-use Prim.Native.Nat.{ℕ, zero, suc, _+_, _-_, _*_, _/_, _%_, _≤_, _<_, _^_}
-use native.Mathlib.Nat.{mul-assoc, mul-comm, mul-right-comm, zero-mul, mul-pos, mul-le-mul, mul-le-mul-right, mul-div-cancel, le-of-mul-le-mul-right, lt-of-not-le, lt-of-lt-of-le, not-le-of-lt, le-trans}
+use Prim.Native.Nat.{ℕ, zero, suc, _+_, _-_, _*_, _≤_, _<_, _^_}
+use native.Mathlib.Nat.{mul-assoc, mul-right-comm, zero-mul, mul-le-mul, mul-le-mul-right, eq-of-mul-eq-mul-right}
+use native.Mathlib.Nat.{le-of-mul-le-mul-right, lt-of-not-le, lt-of-lt-of-le, not-le-of-lt, le-trans}
 use native.Mathlib.Omega.{arith}
 use lib.IntN.{ℤ}
 use lib.Dec.{T, lit≤, lit<}
@@ -10,26 +11,13 @@ use lib.Pow.{pow-add, pow-pos, pow-mono, shl-lt}
 use lib.Ieee.{Float, fin, binary64, up, down, fits, ofBits, toBits}
 use lib.Ieee.Bits.{ofBits-toBits}
 use lib.Ieee.Fits.{down-pos}
+use Rattle.laws.specs.Fields.{field, digitsOf}
+use Rattle.laws.proofs.Fraction.{below-of-cross}
 use Rattle.laws.proofs.Pattern.{Units, units-low, units-high}
-use Rattle.laws.proofs.Fields.{field-below}
+use Rattle.laws.proofs.Fields.{field-below, digits-least, digits-most, pattern-parts}
 use Rattle.laws.proofs.Positive.{pattern-of-finite}
-use Rattle.fixed.proofs.Scaled.{below-of-cross}
-use Rattle.sine.specs.Angle.{field, digitsOf}
 
--- ---- of numbers alone
-least : (b : ℕ) → 2 ^ 52 ≤ digitsOf b
-least b = omega arith
-
-most : (b : ℕ) → digitsOf b < 2 ^ 53
-most b = omega arith
-
-whole : (b : ℕ) → 1 ≤ field b → b ≡ (field b - 1) * 2 ^ 52 + digitsOf b
-whole b h = omega arith
-
-cancel : (a b p : ℕ) → 0 < p → a * p ≡ b * p → a ≡ b
-cancel a b p P e = sym (mul-div-cancel a P) ∙ ap (λ (n : ℕ). n / p) e ∙ mul-div-cancel b P
-
--- ---- of one number m * 2 ^ e that the format holds
+-- of one number m * 2 ^ e that the format holds
 module _ (m : ℕ) (e : ℤ) (fit : T (fits binary64 (fin false m e))) where
   abbrev b : ℕ
   b = toBits binary64 (fin false m e)
@@ -55,7 +43,7 @@ module _ (m : ℕ) (e : ℤ) (fit : T (fits binary64 (fin false m e))) where
   value : 1 ≤ field b → m * up e * 2 ^ 1074 ≡ digitsOf b * 2 ^ (field b - 1) * down e
   value l =
       subst (λ (x : Float). Units x false (digitsOf b * 2 ^ (field b - 1))) back
-      (units-high b (field b - 1) (digitsOf b) (whole b l) (least b) (most b) (fewer (field b) finite l)) .1
+      (units-high b (field b - 1) (digitsOf b) (pattern-parts b l) (digits-least b) (digits-most b) (fewer (field b) finite l)) .1
     where
       fewer : (f : ℕ) → f < 2047 → 1 ≤ f → f - 1 < 2046
       fewer f h l = omega arith
@@ -64,7 +52,7 @@ module _ (m : ℕ) (e : ℤ) (fit : T (fits binary64 (fin false m e))) where
   pub field-most : (k : ℕ) → 1 ≤ field b → m * up e < 2 ^ k * down e → field b < 1023 + k
   field-most k l h = lt-of-not-le (λ (g : 1023 + k ≤ field b).
       let p : 2 ^ (52 + (1022 + k)) ≤ digitsOf b * 2 ^ (field b - 1) =
-      subst (λ (n : ℕ). n ≤ digitsOf b * 2 ^ (field b - 1)) (sym (pow-add 2 52 (1022 + k))) (mul-le-mul (least b) (pow-mono {j = field b - 1} (above (field b) k g))) in
+      subst (λ (n : ℕ). n ≤ digitsOf b * 2 ^ (field b - 1)) (sym (pow-add 2 52 (1022 + k))) (mul-le-mul (digits-least b) (pow-mono {j = field b - 1} (above (field b) k g))) in
       let q : 2 ^ k * 2 ^ 1074 ≤ digitsOf b * 2 ^ (field b - 1) = subst (λ (n : ℕ). n ≤ digitsOf b * 2 ^ (field b - 1)) (ap (λ (n : ℕ). 2 ^ n) (together k) ∙ pow-add 2 k 1074) p in
       not-le-of-lt h (over (m * up e) (down e) (digitsOf b * 2 ^ (field b - 1)) (2 ^ 1074) (2 ^ k) (pow-pos 1074) (value l) q))
     where
@@ -92,7 +80,7 @@ module _ (m : ℕ) (e : ℤ) (fit : T (fits binary64 (fin false m e))) where
           low n i = omega arith
       small (suc f) i g =
           below-of-cross (m * up e) (down e) (digitsOf b * 2 ^ (field b - 1)) (2 ^ 1074) 4 (pow-pos 1074) (value (some (field b) i))
-          (lt-of-lt-of-le (shl-lt 53 (field b - 1) (most b)) (le-trans (pow-mono {j = 1076} (within (field b) g)) (lit≤ tt))) (down-pos e)
+          (lt-of-lt-of-le (shl-lt 53 (field b - 1) (digits-most b)) (le-trans (pow-mono {j = 1076} (within (field b) g)) (lit≤ tt))) (down-pos e)
         where
           some : (n : ℕ) → suc f ≡ n → 1 ≤ n
           some n i = omega arith
@@ -108,7 +96,7 @@ module _ (m : ℕ) (e : ℤ) (fit : T (fits binary64 (fin false m e))) where
       let d = digitsOf b in
       let up' : 2 ^ j * p ≡ 2 ^ 1074 = sym (pow-add 2 j (1074 - j)) ∙ ap (λ (n : ℕ). 2 ^ n) (parts j low s one) in
       let high : 2 ^ k * p ≡ 2 ^ (field b - 1) = sym (pow-add 2 k (1074 - j)) ∙ ap (λ (n : ℕ). 2 ^ n) (rest (field b) j low s one l) in
-      cancel (m * up e * 2 ^ j) (d * 2 ^ k * down e) p (pow-pos (1074 - j))
+      eq-of-mul-eq-mul-right p (pow-pos (1074 - j)) (m * up e * 2 ^ j) (d * 2 ^ k * down e)
       (mul-assoc (m * up e) (2 ^ j) p ∙ ap (λ (n : ℕ). m * up e * n) up' ∙ value (le-trans one l)
       ∙ ap (λ (n : ℕ). d * n * down e) (sym high) ∙ ap (λ (n : ℕ). n * down e) (sym (mul-assoc d (2 ^ k) p)) ∙ mul-right-comm (d * 2 ^ k) p (down e))
     where

@@ -12,10 +12,12 @@ use lib.Ieee.{Float, nan, inf, fin, binary64, up, down, round, units, odd, size,
 use lib.Ieee.Fits.{down-pos, round-fits}
 use lib.Ieee.Order.{round-mono}
 use Rattle.laws.specs.Size.{abs}
+use Rattle.laws.proofs.SignBit.{signed, round-signed}
+use Rattle.laws.proofs.Held.{fits-num, fits-den}
+use Rattle.laws.proofs.Truncation.{MayCut}
 use Rattle.fixed.specs.Size.{sizeOf}
 use Rattle.fixed.proofs.Sizes.{size-positive}
-use Rattle.fixed.proofs.Signed.{signed, round-signed}
-use Rattle.fixed.proofs.Scaled.{fits-num, fits-den, MayCut, size-may-cut, size-whole}
+use Rattle.fixed.proofs.Scaled.{size-may-cut, size-whole}
 use Rattle.sine.specs.Angle.{tau}
 use Rattle.sine.specs.Angle as angle
 
@@ -68,10 +70,10 @@ module _ (s : Bool) (m : ℕ) (e : ℤ) (fit : T (fits binary64 (fin s m e))) (s
 
   pub units-floor : angle.units (fin s m e) ≡ m * up e * 2 ^ 61 / down e
   unfolding angle.units ofBits ofFields odd trailingZeros
-  units-floor = size-whole 61 m e (lit≤ tt) (fits-num s m e fit) (fits-den s m e fit) (omega (arith, small)) room s
+  units-floor = size-whole 61 m e (lit≤ tt) (fits-num binary64 s m e fit) (fits-den binary64 s m e fit) (omega (arith, small)) room s
 
   pub units-may-cut : MayCut (mul binary64 (sizeOf (fin s m e)) (fin false 1 (pos 61)))
-  units-may-cut = size-may-cut 61 m e (lit≤ tt) (fits-num s m e fit) (fits-den s m e fit) (omega (arith, small)) room s
+  units-may-cut = size-may-cut 61 m e (lit≤ tt) (fits-num binary64 s m e fit) (fits-den binary64 s m e fit) (omega (arith, small)) room s
 
   pub units-near : (angle.units (fin s m e) * down e ≤ 2 ^ 61 * (m * up e)) × (2 ^ 61 * (m * up e) ≤ (angle.units (fin s m e) + 1) * down e)
   units-near =

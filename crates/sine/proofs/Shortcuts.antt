@@ -3,24 +3,28 @@
 use mathlib.Core.Path.{_≡_, refl, sym, _∙_, ap, subst}
 use mathlib.Core.Bool.{Bool, true, false, false≢true, true≢false}
 use Prim.Native.Nat.{ℕ, suc, _+_, _*_, _-_, _/_, _%_, _≤_, _<_, _^_}
-use native.Mathlib.Nat.{mul-assoc, mul-left-comm, mul-right-comm, mul-comm, mul-one, zero-mul, mul-pos, le-of-lt, mod-lt, mod-eq-of-lt, mul-div-cancel, div-add-mod', add-mul, le-of-mul-le-mul-right, lt-of-mul-lt-mul-right, lt-of-not-le, not-le-of-lt, lt-of-lt-of-le, le-trans}
+use native.Mathlib.Nat.{mul-assoc, mul-left-comm, mul-right-comm, mul-comm, mul-one, zero-mul, mul-pos, le-of-lt, mod-lt, mod-eq-of-lt}
+use native.Mathlib.Nat.{mul-div-cancel, div-add-mod', add-mul, le-of-mul-le-mul-right, lt-of-mul-lt-mul-right, lt-of-not-le, not-le-of-lt}
+use native.Mathlib.Nat.{lt-of-lt-of-le, le-trans}
 use native.Mathlib.Omega.{arith}
 use lib.IntN.{ℤ, pos, negsuc}
 use lib.Dec.{T, lit≤, lit<}
 use lib.Pow.{pow-add, pow-mono, shl-lt}
 use lib.Count.{trailingZeros}
 use borrow.Author.Tests.{ltb-true, ltb-false}
-use lib.Ieee.{Float, nan, inf, fin, binary64, up, down, round, odd, ofBits, ofFields, neg, mul, rem, lt, eq, toBits, isNan, fits}
+use lib.Ieee.{Float, nan, inf, fin, binary64, up, down, round, odd, ofBits, ofFields, neg, mul, rem, lt, eq, toBits, fits}
 use lib.Ieee.Fits.{down-pos}
 use lib.Ieee.Exact.{HasValue, round-exact}
 use lib.Ieee.Scale.{round-same}
 use lib.Ieee.Nearest.{div-same}
-use Rattle.laws.specs.Number.{number}
+use Rattle.laws.specs.Fields.{field, digitsOf}
 use Rattle.laws.specs.Size.{abs}
+use Rattle.laws.proofs.Held.{fits-num, fits-den}
+use Rattle.laws.proofs.Scaled.{exact-times}
+use Rattle.laws.proofs.Truncation.{MayCut}
 use Rattle.fixed.specs.Size.{sizeOf}
 use Rattle.fixed.proofs.Sizes.{by-sign}
-use Rattle.fixed.proofs.Scaled.{fits-num, fits-den, exact-times, MayCut, size-may-cut, size-whole}
-use Rattle.sine.specs.Angle.{tau, field, digitsOf}
+use Rattle.sine.specs.Angle.{tau}
 use Rattle.sine.specs.Angle as angle
 use Rattle.sine.proofs.Patterns.{field-most, field-least, by-bits}
 use Rattle.sine.proofs.Remainders.{Remainder, remainder, eq-self, units-floor, units-may-cut, units-nan, units-abs}
@@ -49,12 +53,22 @@ unfolding rem tau ofBits ofFields odd trailingZeros
 below-tau s m e fit h =
     let x = m * up e in
     let d = down e in
-    let hm = fits-num s m e fit in
-    let hd = fits-den s m e fit in
+    let hm = fits-num binary64 s m e fit in
+    let hd = fits-den binary64 s m e fit in
     let d-pos : 0 < d * 1 = mul-pos (down-pos e) (lit< tt) in
     let p : round binary64 s (x * 2 ^ 47 % (884279719003555 * d)) (d * 2 ^ 47) ≡ round binary64 s (x * 2 ^ 0) (d * 1) =
     rw (mod-eq-of-lt h)
-    (round-same binary64 s (x * 2 ^ 47) (d * 2 ^ 47) (x * 2 ^ 0) (d * 1) (mul-pos (down-pos e) (lit< tt)) d-pos (omega (arith, mul-assoc x (2 ^ 47) (d * 1), mul-assoc x 1 (d * 2 ^ 47), ap (λ (z : ℕ). x * z) (mul-one d), mul-left-comm x d (2 ^ 47), mul-comm (2 ^ 47) (d * 1), mul-one d, mul-one x))) in
+    (round-same binary64 s (x * 2 ^ 47) (d * 2 ^ 47) (x * 2 ^ 0) (d * 1) (mul-pos (down-pos e) (lit< tt)) d-pos
+    (omega (
+      arith,
+      mul-assoc x (2 ^ 47) (d * 1),
+      mul-assoc x 1 (d * 2 ^ 47),
+      ap (λ (z : ℕ). x * z) (mul-one d),
+      mul-left-comm x d (2 ^ 47),
+      mul-comm (2 ^ 47) (d * 1),
+      mul-one d,
+      mul-one x,
+    ))) in
     let v : HasValue (round binary64 s (x * 2 ^ 47 % (884279719003555 * d)) (d * 2 ^ 47)) s (x * 2 ^ 0) (d * 1) =
     subst (λ (y : Float). HasValue y s (x * 2 ^ 0) (d * 1)) (sym p) (exact-times s 0 m e (lit≤ tt) hm hd (omega (arith, h))) in
     value-units s (round binary64 s (x * 2 ^ 47 % (884279719003555 * d)) (d * 2 ^ 47)) (remainder s m e) (x * 2 ^ 0) (d * 1) d-pos v
@@ -99,7 +113,7 @@ module _ (s : Bool) (m : ℕ) (e : ℤ) (fit : T (fits binary64 (fin s m e))) (f
   d = down e
 
   hm : m < 2 ^ 53
-  hm = fits-num s m e fit
+  hm = fits-num binary64 s m e fit
 
   fifty-units : angle.units (rem binary64 (fin s m e) tau) ≡ (x * 2 ^ 50 / d) % 7074237752028440 * 2048
   unfolding rem tau ofBits ofFields odd trailingZeros
@@ -154,12 +168,6 @@ module _ (x : Float) (fit : T (fits binary64 x)) (below : lt (sizeOf x) tau ≡ 
       go (fin s m e) f t = below-tau s m e f (size-below s m e 884279719003555 (negsuc 46) t (lit< tt))
 
 -- ---- by the pattern of the size
-pub number-abs : (x : Float) → T (number x) → T (number (abs x))
-unfolding abs isNan
-number-abs nan t = t
-number-abs (inf s) t = t
-number-abs (fin s m e) t = t
-
 module _ (x : Float) (fit : T (fits binary64 (abs x))) where
   abbrev bits : ℕ
   bits = toBits binary64 (abs x)
@@ -196,8 +204,11 @@ module _ (x : Float) (fit : T (fits binary64 (abs x))) where
           let to : m * up e < 8192 * down e = omega (arith, size-below false m e 1 (pos 13) u (lit< tt)) in
           let l : 1025 ≤ field (toBits binary64 (fin false m e)) = field-least m e f (omega (arith, from)) in
           let k = digitsOf (toBits binary64 (fin false m e)) * 2 ^ (field (toBits binary64 (fin false m e)) - 1025) in
-          let w : m * up e * 2 ^ 50 / down e ≡ k = ap (λ (n : ℕ). n / down e) (by-bits m e f 50 1025 refl (lit≤ tt) l) ∙ mul-div-cancel k (down-pos e) in
-          (l, le-trans (field-most m e f 13 (le-trans (lit≤ tt) l) (omega (arith, to))) (lit≤ tt), sym (units-abs (fin s m e) ∙ fifty-units false m e f from to ∙ ap (λ (n : ℕ). n % 7074237752028440 * 2048) w))
+          let w : m * up e * 2 ^ 50 / down e ≡ k = ap (λ (n : ℕ). n / down e) (by-bits m e f 50 1025 refl (lit≤ tt) l) ∙ mul-div-cancel k (down-pos e) in (
+            l,
+            le-trans (field-most m e f 13 (le-trans (lit≤ tt) l) (omega (arith, to))) (lit≤ tt),
+            sym (units-abs (fin s m e) ∙ fifty-units false m e f from to ∙ ap (λ (n : ℕ). n % 7074237752028440 * 2048) w),
+          )
 
 -- beyond: a remainder that is a number
 pub far-may-cut : (x : Float) → eq (rem binary64 x tau) (rem binary64 x tau) ≡ true → MayCut (mul binary64 (sizeOf (rem binary64 x tau)) (fin false 1 (pos 61)))

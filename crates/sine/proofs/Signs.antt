@@ -5,7 +5,7 @@ use Prim.Native.Nat.{ℕ, _*_, _^_}
 use lib.IntN.{negsuc}
 use lib.Count.{trailingZeros}
 use lib.Ieee.{Float, nan, inf, fin, binary64, up, down, round, odd, ofBits, ofFields, neg, mul, unlike}
-use Rattle.fixed.proofs.Signed.{signed, round-signed, neg-signed}
+use Rattle.laws.proofs.SignBit.{round-neg}
 use Rattle.sine.specs.Rule.{floated}
 
 unit-odd : (x : Float) (s : Bool) → mul binary64 x (fin (not s) 1 (negsuc 52)) ≡ neg (mul binary64 x (fin s 1 (negsuc 52)))
@@ -18,10 +18,7 @@ unit-odd (inf false) false = refl
 unit-odd (fin t m e) s =
     let a = m * up e * 1 in
     let c = down e * 2 ^ 53 in
-    round-signed binary64 (unlike t (not s)) a c
-    ∙ ap (λ (b : Bool). signed b (round binary64 false a c)) (unlike-not t s)
-    ∙ sym (neg-signed (unlike t s) (round binary64 false a c))
-    ∙ ap (λ (y : Float). neg y) (sym (round-signed binary64 (unlike t s) a c))
+    ap (λ (b : Bool). round binary64 b a c) (unlike-not t s) ∙ sym (round-neg binary64 (unlike t s) a c)
   where
     unlike-not : (t s : Bool) → unlike t (not s) ≡ not (unlike t s)
     unlike-not true true = refl

@@ -1,6 +1,6 @@
 -- How large each number of the rule can be, so that nothing wraps. Assumes nothing.
 use mathlib.Core.Path.{_≡_, refl}
-use mathlib.Core.Bool.{Bool, true, false, cond, not, _&&_, _||_, true≢false}
+use mathlib.Core.Bool.{Bool, true, false, cond, not, _&&_, _||_}
 use mathlib.Core.List.{List, [], _∷_}
 use Prim.Native.Nat.{ℕ, zero, suc, _+_, _*_, _-_, _/_, _≤_, _<_, _^_}
 use native.Mathlib.Nat.{mul-le-mul}
@@ -8,6 +8,7 @@ use native.Mathlib.Omega.{arith}
 use lib.Dec.{T, leb, ltb, leb→le}
 use lib.ListN.{getD}
 use borrow.Author.Tests.{ltb-false}
+use Rattle.laws.proofs.Logic.{or-false-left, or-false-right}
 use Rattle.fixed.specs.High.{high}
 use Rattle.fixed.proofs.Products.{high-le}
 use Rattle.sine_table.specs.Table.{sines, cosines}
@@ -105,14 +106,6 @@ cosine-units-lt n =
     let z = square-le g (rest-le n) in
     turned-lt _ _ _ _ (not (under n)) (node-cosine-le (node n)) (node-sine-le (node n)) (versine-le (high g g) z) (sine-le g (high g g) (rest-le n))
 
-pub or-left : (a b : Bool) → (a || b) ≡ false → a ≡ false
-or-left true b e = e
-or-left false b e = refl
-
-pub or-right : (a b : Bool) → (a || b) ≡ false → b ≡ false
-or-right true b e = absurd (true≢false e)
-or-right false b e = e
-
 pub ranged-range : (k : ℕ) → (2 ^ 54 ≤ ranged k) × (ranged k ≤ 2 ^ 55)
 unfolding ranged
 ranged-range k = low (ltb k (2 ^ 54)) refl
@@ -128,8 +121,8 @@ ranged-range k = low (ltb k (2 ^ 54)) refl
 -- a number that is in the range stays as it is
 module _ (k : ℕ) (inside : (ltb k (2 ^ 54) || ltb (2 ^ 55) k) ≡ false) where
   pub inside-range : (2 ^ 54 ≤ k) × (k ≤ 2 ^ 55)
-  inside-range = (ltb-false k (2 ^ 54) (or-left (ltb k (2 ^ 54)) (ltb (2 ^ 55) k) inside), ltb-false (2 ^ 55) k (or-right (ltb k (2 ^ 54)) (ltb (2 ^ 55) k) inside))
+  inside-range = (ltb-false k (2 ^ 54) (or-false-left (ltb k (2 ^ 54)) (ltb (2 ^ 55) k) inside), ltb-false (2 ^ 55) k (or-false-right (ltb k (2 ^ 54)) (ltb (2 ^ 55) k) inside))
 
   pub inside-ranged : ranged k ≡ k
   unfolding ranged
-  inside-ranged = rw (or-left (ltb k (2 ^ 54)) (ltb (2 ^ 55) k) inside, or-right (ltb k (2 ^ 54)) (ltb (2 ^ 55) k) inside) refl
+  inside-ranged = rw (or-false-left (ltb k (2 ^ 54)) (ltb (2 ^ 55) k) inside, or-false-right (ltb k (2 ^ 54)) (ltb (2 ^ 55) k) inside) refl

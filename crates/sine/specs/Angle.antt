@@ -1,6 +1,6 @@
 -- The angle. 01, 'Roots and angles': "let r be x % TAU, as the language's % gives it." The rule goes on with n, the size of r at 2 ^ 61,
 -- cut to a whole number, and 0 where r is no number. Definitions only.
-use Prim.Native.Nat.{ℕ, _+_, _/_, _%_, _^_}
+use Prim.Native.Nat.{ℕ}
 use lib.Ieee.{Float, binary64, ofBits, mul, toUnsigned}
 use Rattle.scalar.specs.Angles as angles
 use Rattle.fixed.specs.Size.{sizeOf}
@@ -12,10 +12,3 @@ tau = angles.tau
 -- the whole part of the size of r times 2 ^ 61
 unfoldable pub units : Float → ℕ
 units r = toUnsigned 64 (mul binary64 (sizeOf r) (ofBits binary64 0x43c0000000000000))
-
--- of a number's pattern: the exponent's field, and the digits with the leading one, which is not written
-abbrev pub field : ℕ → ℕ
-field bits = bits / 2 ^ 52
-
-abbrev pub digitsOf : ℕ → ℕ
-digitsOf bits = bits % 2 ^ 52 + 2 ^ 52

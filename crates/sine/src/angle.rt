@@ -2,7 +2,8 @@
 ghost use mathlib.Core.Path.{_≡_};
 ghost use Prim.Native.Nat.{_≤_, _<_, _+_, _-_, _*_, _^_};
 ghost use lib.Ieee.{binary64, rem};
-ghost use Rattle.sine.specs.Angle.{tau, units, field, digitsOf};
+ghost use Rattle.laws.specs.Fields.{field, digitsOf};
+ghost use Rattle.sine.specs.Angle.{tau, units};
 ghost use Rattle.sine.specs.Split.{Parts};
 use crate::steps;
 use scalar::TAU;

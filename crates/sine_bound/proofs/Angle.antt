@@ -2,8 +2,8 @@
 use mathlib.Core.Path.{_≡_, refl, sym, _∙_, ap, subst}
 use mathlib.Core.List.{List, []}
 use mathlib.Core.Bool.{Bool, true, false, not}
-use Prim.Native.Nat.{ℕ, zero, suc, _+_, _*_, _-_, _≤_, _<_, _^_}
-use native.Mathlib.Nat.{mul-add, add-mul, mul-assoc, mul-left-comm, mul-comm, mul-le-mul-right, le-of-mul-le-mul-left, pow-suc, pow-zero, one-mul, zero-mul, mul-pos}
+use Prim.Native.Nat.{ℕ, _+_, _*_, _-_, _≤_, _<_, _^_}
+use native.Mathlib.Nat.{one-le-pow, mul-add, add-mul, mul-assoc, mul-left-comm, mul-comm, mul-le-mul-right, le-of-mul-le-mul-left, pow-suc, pow-zero, one-mul, zero-mul}
 use native.Mathlib.Omega.{arith}
 use lib.Dec.{lit≤, lit<}
 use lib.ListN.{length, getD}
@@ -44,10 +44,6 @@ cosine-lengths = (lit≤ tt, lit≤ tt)
 -- the rule's number of the angle n for a row b, c
 unfoldable pub number : ℕ → ℕ → ℕ → Bool → ℕ
 number b c n f = turned b c (shortVersine (high (rest n) (rest n))) (shortSine (rest n) (high (rest n) (rest n))) f
-
-power-pos : (d k : ℕ) → 0 < d → 0 < d ^ k
-power-pos d zero h = rw (pow-zero d) (lit< tt)
-power-pos d (suc k) h = rw (pow-suc d k) (mul-pos (power-pos d k h) h)
 
 -- a common factor
 less : (c e t y g l : ℕ) → 0 < c → Close e t (c * y) (c * g) (c * l) → Close e t y g l
@@ -219,7 +215,7 @@ module _ (n x d : ℕ) (d-pos : 0 < d) (n-lo : n * d ≤ 2 ^ 61 * x) (n-hi : 2 ^
   either-range b c f hb hc ok = go (under n) refl
     where
       at : (a : ℕ) → a ≤ d → Stands a d 32 (rest n) 1 1 line [] → InRange (number b c n f)
-      at a a-small start = in-range a d _ b c f (power-pos d 7 d-pos) a-small (turned-stands a d (rest n) (rest-le n) start b c hb hc f) ok
+      at a a-small start = in-range a d _ b c f (one-le-pow 7 d d-pos) a-small (turned-stands a d (rest n) (rest-le n) start b c hb hc f) ok
 
       go : (u : Bool) → under n ≡ u → InRange (number b c n f)
       go false e = at (a e) (a-small e) (start e)

@@ -112,7 +112,8 @@ module _ (a d g : ℕ) (small : g ≤ 2 ^ 61) (start : Stands a d 32 g 1 1 line 
     across =
         let v = shortVersine z in
         cut 408 (2 ^ 8) (high b v / 2 ^ 8) (omega arith) (omega arith) (lit≤ tt)
-        (product 104022 3 (2 ^ 62) (high b v) (2 ^ 62) (2 ^ 59) (lit≤ tt) (lit≤ tt) (lit≤ tt) b-small v-small (high-close-swapped v b .0) (high-close-swapped v b .1) (lit≤ tt) versine-stands (constant a d b))
+        (product 104022 3 (2 ^ 62) (high b v) (2 ^ 62) (2 ^ 59) (lit≤ tt) (lit≤ tt) (lit≤ tt) b-small v-small
+        (high-close-swapped v b .0) (high-close-swapped v b .1) (lit≤ tt) versine-stands (constant a d b))
 
     base-stands : Stands a d 613 (2 ^ 62 + b - high b (shortVersine z) / 2 ^ 8 + shortVersine z / 2 ^ 9) (6 * 2 ^ 506) 7 (basePlus b) (baseMinus b)
     unfolding basePlus baseMinus versinePlus versineMinus bendPlus bendMinus times plus scale square line
@@ -129,7 +130,8 @@ module _ (a d g : ℕ) (small : g ≤ 2 ^ 61) (start : Stands a d 32 g 1 1 line 
     along =
         let s = shortSine g z in
         cut 7 (2 ^ 4) (high c s / 2 ^ 4) (omega arith) (omega arith) (lit≤ tt)
-        (product 86 3 (2 ^ 62) (high c s) (2 ^ 62) (2 ^ 61) (lit≤ tt) (lit≤ tt) (lit≤ tt) c-small s-small (high-close-swapped s c .0) (high-close-swapped s c .1) (lit≤ tt) sine-stands (constant a d c))
+        (product 86 3 (2 ^ 62) (high c s) (2 ^ 62) (2 ^ 61) (lit≤ tt) (lit≤ tt) (lit≤ tt) c-small s-small
+        (high-close-swapped s c .0) (high-close-swapped s c .1) (lit≤ tt) sine-stands (constant a d c))
 
     shared : Stands a d 4 (shortSine g z / 2 ^ 5) (6 * 2 ^ 506) 7 (scale (2 ^ 61) sinePlus) (scale (2 ^ 61) sineMinus)
     shared =

@@ -60,7 +60,10 @@ module _ (k r y p m t e : ℕ) (q-pos : 0 < k * (r * (y * y))) (twice : 2 * r �
       let s : t * (r * y) + 624 * (r * y) ≡ (t + 624) * (r * y) = sym (add-mul t 624 (r * y)) in
       let j : k * (y * p) ≤ k * (y * ((t + 624) * (r * y) + m)) = mul-le-mul-left k (mul-le-mul-left y (omega arith)) in
       let x = mul-add k (y * m) (3 * 2 ^ 61 * r * (y * y)) in
-      le-of-mul-le-mul-left {k = q} (rw (mul-comm q (2 * 2 ^ 61), mul-comm q (t + 17008)) (omega (arith, j, x, sum-is (t + 624) m, unit-is (3 * 2 ^ 61), constant-is, error-is, add-mul t 17008 q, add-mul t 624 q))) q-pos
+      le-of-mul-le-mul-left {k = q}
+      (rw (mul-comm q (2 * 2 ^ 61), mul-comm q (t + 17008))
+      (omega (arith, j, x, sum-is (t + 624) m, unit-is (3 * 2 ^ 61), constant-is, error-is, add-mul t 17008 q, add-mul t 624 q)))
+      q-pos
 
 -- ---- and of the rule
 pub turned-lengths : (b c : ℕ) (f : Bool) → (length (turnedPlus b c f) ≤ 8) × (length (turnedMinus b c f) ≤ 8)

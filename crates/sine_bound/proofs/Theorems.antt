@@ -14,7 +14,7 @@ use lib.Ieee.Fits.{down-pos}
 use lib.Ieee.Positive.{num, den}
 use lib.Ieee.Scale.{finite}
 use Rattle.fixed.specs.Size.{sizeOf}
-use Rattle.fixed.proofs.Signed.{signed}
+use Rattle.laws.proofs.SignBit.{signed}
 use Rattle.sine.specs.Angle.{tau, units}
 use Rattle.sine.specs.Rule.{sineUnits, cosineUnits, float, sine, cosine}
 use Rattle.sine.proofs.Remainders.{Remainder, remainder, eq-self, units-floor, rem-signed, units-signed}

@@ -64,11 +64,15 @@ unfoldable pub flatRow : ℕ → ℕ → Bool
 flatRow b c = flat b c false && flat b c true
 
 all-sines : rows (λ j s c. flatRow s c) 0 sines cosines ≡ true
-unfolding rows sines cosines flatRow flat slight overTop underBottom lifts middle lessCosPlus lessCosMinus moreCosPlus moreCosMinus sinSidePlus sinSideMinus squares crosses off gap total plus scale times turnedPlus turnedMinus basePlus baseMinus sinePlus sineMinus lackPlus lackMinus versinePlus versineMinus bendPlus bendMinus square line rowDen
+unfolding rows sines cosines flatRow flat slight overTop underBottom lifts middle
+    lessCosPlus lessCosMinus moreCosPlus moreCosMinus sinSidePlus sinSideMinus squares crosses
+    off gap total plus scale times turnedPlus turnedMinus basePlus baseMinus sinePlus sineMinus lackPlus lackMinus versinePlus versineMinus bendPlus bendMinus square line rowDen
 all-sines = refl
 
 all-cosines : rows (λ j s c. flatRow c s) 0 sines cosines ≡ true
-unfolding rows sines cosines flatRow flat slight overTop underBottom lifts middle lessCosPlus lessCosMinus moreCosPlus moreCosMinus sinSidePlus sinSideMinus squares crosses off gap total plus scale times turnedPlus turnedMinus basePlus baseMinus sinePlus sineMinus lackPlus lackMinus versinePlus versineMinus bendPlus bendMinus square line rowDen
+unfolding rows sines cosines flatRow flat slight overTop underBottom lifts middle
+    lessCosPlus lessCosMinus moreCosPlus moreCosMinus sinSidePlus sinSideMinus squares crosses
+    off gap total plus scale times turnedPlus turnedMinus basePlus baseMinus sinePlus sineMinus lackPlus lackMinus versinePlus versineMinus bendPlus bendMinus square line rowDen
 all-cosines = refl
 
 flat-at : (b c : ℕ) → flatRow b c ≡ true → (f : Bool) → flat b c f ≡ true

@@ -55,11 +55,15 @@ unfolding nearAbove nearBelow
 nearRow gains losses f j b c = nearAbove gains losses f j b c && nearBelow gains losses (not f) j b c
 
 all-sines : rows (λ j s c. nearRow sineGains sineLosses false j s c) 0 sines cosines ≡ true
-unfolding rows sines cosines nearRow nearAbove nearBelow limit distance off gap total plus scale times shift step back backStep spread weigh sineGains sineLosses over everyFourth factorial turnedPlus turnedMinus basePlus baseMinus sinePlus sineMinus lackPlus lackMinus versinePlus versineMinus bendPlus bendMinus square line rowDen seriesDen
+unfolding rows sines cosines nearRow nearAbove nearBelow limit distance off gap total plus scale times
+    shift step back backStep spread weigh sineGains sineLosses over everyFourth factorial
+    turnedPlus turnedMinus basePlus baseMinus sinePlus sineMinus lackPlus lackMinus versinePlus versineMinus bendPlus bendMinus square line rowDen seriesDen
 all-sines = refl
 
 all-cosines : rows (λ j s c. nearRow cosineGains cosineLosses true j c s) 0 sines cosines ≡ true
-unfolding rows sines cosines nearRow nearAbove nearBelow limit distance off gap total plus scale times shift step back backStep spread weigh cosineGains cosineLosses over everyFourth factorial turnedPlus turnedMinus basePlus baseMinus sinePlus sineMinus lackPlus lackMinus versinePlus versineMinus bendPlus bendMinus square line rowDen seriesDen
+unfolding rows sines cosines nearRow nearAbove nearBelow limit distance off gap total plus scale times
+    shift step back backStep spread weigh cosineGains cosineLosses over everyFourth factorial
+    turnedPlus turnedMinus basePlus baseMinus sinePlus sineMinus lackPlus lackMinus versinePlus versineMinus bendPlus bendMinus square line rowDen seriesDen
 all-cosines = refl
 
 -- the rows, one by one

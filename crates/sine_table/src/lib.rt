@@ -1,4 +1,4 @@
-// One more than the sine and the cosine of each node j / 16, at 2^61, to the nearest. Written by tools/table.py.
+// One more than the sine and the cosine of each node j / 16, at 2^61, to the nearest. Written by crates/sine_table/tools/table.py.
 // A `match` on the index is one load; a constant array would be stored anew at each call.
 ghost use mathlib.Core.Path.{_≡_};
 ghost use lib.ListN.{getD};

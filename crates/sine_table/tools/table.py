@@ -23,7 +23,7 @@ def write(path, text):
     open(path, "w", encoding="utf-8").write(text)
 
 
-code = """// One more than the sine and the cosine of each node j / 16, at 2^61, to the nearest. Written by tools/table.py.
+code = """// One more than the sine and the cosine of each node j / 16, at 2^61, to the nearest. Written by crates/sine_table/tools/table.py.
 // A `match` on the index is one load; a constant array would be stored anew at each call.
 ghost use mathlib.Core.Path.{_≡_};
 ghost use lib.ListN.{getD};
@@ -41,7 +41,7 @@ pub fn node_{name}(j: u64) -> u64
 write("src/lib.rt", code)
 
 spec = """-- The table of the rule: one more than the sine and the cosine of each node j / 16, j from 0 to 101, at 2 ^ 61, to the nearest.
--- Nothing has to be believed of these numbers: proofs/Nodes.antt tests each against Taylor's series. Written by tools/table.py.
+-- Nothing has to be believed of these numbers: proofs/Nodes.antt tests each against Taylor's series. Written by crates/sine_table/tools/table.py.
 use mathlib.Core.List.{List, [], _∷_}
 use Prim.Native.Nat.{ℕ}
 """
@@ -51,7 +51,7 @@ write("specs/Table.antt", spec)
 
 for name in tables:
     proof = f"""-- `sine_table::node_{name}` reads the table: each arm is the number at its index, and past the arms there is none.
--- Written by tools/table.py. Assumes nothing.
+-- Written by crates/sine_table/tools/table.py. Assumes nothing.
 use mathlib.Core.Path.{{_≡_, refl, sym}}
 use Prim.Native.Nat.{{ℕ}}
 use lib.ListN.{{getD, List·getD-eq-default}}

@@ -14,31 +14,41 @@ abbrev μ-loop : tie.MeasureT-loop
 μ-loop bytes line₀ room₀ out₀ t₀ at₀ line room out t at = length bytes - at
 
 loop-holds : tie.Need-loop-holds Inv-loop μ-loop
-loop-holds c = (c .before .before .before .before .pre .0, refl, refl, refl)
-
-newline-requires : tie.Need-newline-requires Inv-loop μ-loop
-newline-requires c κs = omega arith
+loop-holds c =
+    let slice-known = c .before .before in
+    let start = slice-known .before .before in
+    (start .pre .0, refl, refl, refl)
 
 step-requires : tie.Need-step-requires Inv-loop μ-loop
-step-requires c κs = (c .before .before .before .before .before .loop .inv .0, c .before .before .before .newline .ensures .1)
+step-requires c κs =
+    let newline = c .before .before .before in
+    let loop = newline .before .before in
+    (loop .loop .inv .0, newline .newline .ensures .1)
 
 add-at : tie.Need-add-at Inv-loop μ-loop
-add-at c = omega (arith, c .before .before .before .before .before .before .before .before .before .before .newline .ensures .1)
+add-at c =
+    -- the places are named inside the list: omega reads what is in scope, up to a bound
+    omega (
+      arith,
+      let room = c .before .before .before in
+          let step = room .before .before .before in
+          let step-arg2 = step .before .before in
+          step-arg2 .before .before .newline .ensures .1,
+    )
 
 loop-less : tie.Need-loop-less Inv-loop μ-loop
-loop-less c = omega (arith, c .before .before .before .before .before .before .before .before .before .before .newline .ensures .0, c .before .before .before .before .before .before .before .before .before .before .newline .ensures .1)
+loop-less c =
+    let room = c .before .before .before in
+    let step = room .before .before .before in
+    let step-arg2 = step .before .before in
+    let newline = step-arg2 .before .before in
+    omega (arith, newline .newline .ensures .0, newline .newline .ensures .1)
 
 loop-again : tie.Need-loop-again Inv-loop μ-loop
-loop-again c = (c .before .before .before .before .before .before .step .ensures, search needs, search needs, search needs)
-
-same-length : tie.Need-same-length Inv-loop μ-loop
-same-length c = search needs
-
-same-length-2 : tie.Need-same-length-2 Inv-loop μ-loop
-same-length-2 c = search needs
-
-same-length-3 : tie.Need-same-length-3 Inv-loop μ-loop
-same-length-3 c = search needs
+loop-again c =
+    let room = c .before .before .before in
+    let step = room .before .before .before in
+    (step .step .ensures, search needs, search needs, search needs)
 
 returns : tie.Need-returns Inv-loop μ-loop
 returns c = c .before .loop .inv .0
@@ -47,15 +57,5 @@ pub piece-spec : {M : Type 1} → statement M
 piece-spec =
     tie.close
     (tie.spec
-    Inv-loop
-    μ-loop
-    loop-holds
-    newline-requires
-    step-requires
-    add-at
-    loop-less
-    loop-again
-    same-length
-    same-length-2
-    same-length-3
-    returns)
+    Inv-loop μ-loop loop-holds (λ c κs. omega arith) step-requires add-at loop-less loop-again (λ c. search needs)
+    (λ c. search needs) (λ c. search needs) returns)

@@ -23,12 +23,6 @@ arc-is : (u : Float) (n : ℕ) → n ≡ placeOf u → unitsAt n ≡ arcOf u
 unfolding arcOf
 arc-is u n e = ap unitsAt e
 
-place-requires : tie.Need-place-requires
-place-requires c κs = search needs
-
-look-requires : tie.Need-look-requires
-look-requires c κs = search needs
-
 series-requires : tie.Need-series-requires
 series-requires c κs =
     let n = c .before .place .result in
@@ -41,4 +35,5 @@ returns c =
     (e ∙ arc-is (c .before .before .before .args .u) n (c .before .before .place .ensures), subst (λ (q : ℕ). q ≤ 2558044588346441728) (sym e) (units-small n))
 
 pub arc-spec : {M : Type 1} → statement M
-arc-spec = tie.close (tie.spec place-requires look-requires series-requires returns)
+arc-spec =
+    tie.close (tie.spec (λ c κs. search needs) (λ c κs. search needs) series-requires returns)

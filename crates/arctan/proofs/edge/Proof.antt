@@ -14,22 +14,15 @@ returns c =
     let x = c .before .args .x in
     sym (edge-nan y x (rw (ne-self y, ne-self x) at (c .if1 .taken)))
 
-edge-size-requires : tie.Need-edge-size-requires
-edge-size-requires c κs = search needs
-
-is-negative-requires : tie.Need-is-negative-requires
-is-negative-requires c κs = search needs
-
-pick-requires : tie.Need-pick-requires
-pick-requires c κs = search needs
-
 returns-2 : tie.Need-returns-2
 returns-2 c =
-    let start = c .before .before .before .before in
+    let edge-size = c .before .before in
+    let test = edge-size .before in
+    let start = test .before in
     let y = start .args .y in
     let x = start .args .x in
-    rw (c .pick .ensures, c .before .is-negative .ensures, c .before .before .edge-size .ensures, edge-number y x (rw (ne-self y, ne-self x) at (c .before .before .before .if1 .left))) refl
+    rw (c .pick .ensures, c .before .is-negative .ensures, edge-size .edge-size .ensures, edge-number y x (rw (ne-self y, ne-self x) at (test .if1 .left))) refl
 
 pub edge-spec : {M : Type 1} → statement M
 edge-spec =
-    tie.close (tie.spec returns edge-size-requires is-negative-requires pick-requires returns-2)
+    tie.close (tie.spec returns (λ c κs. search needs) (λ c κs. search needs) (λ c κs. search needs) returns-2)

@@ -4,7 +4,8 @@ use Prim.Native.Nat.{ℕ, _*_, _/_, _^_, _<_, _≤_}
 use native.Mathlib.Omega.{arith}
 use lib.Dec.{T}
 use lib.Ieee.{binary64, fits, toBits}
-use Rattle.arctan.proofs.WholePart.{unit-real, unit-field, digitsOf, place-by-bits}
+use Rattle.laws.specs.Fields.{digitsOf}
+use Rattle.arctan.proofs.WholePart.{unit-real, unit-field, place-by-bits}
 use borrow.Author.Needs.{needs}
 use Rattle.arctan.proofs.place.Statement.{statement}
 use Rattle.arctan.proofs.place.Tie as tie
@@ -19,20 +20,8 @@ below n h = omega arith
 float-to-bits-bits : tie.Need-float-to-bits-bits
 float-to-bits-bits c = unit-real (c .args .u) (c .pre)
 
-add-digits : tie.Need-add-digits
-add-digits c = search needs
-
 sub-up-to-63 : tie.Need-sub-up-to-63
 sub-up-to-63 c = below _ (unit-field (c .args .u) (c .pre) (held c))
-
-up-to-63-requires : tie.Need-up-to-63-requires
-up-to-63-requires c κs = search needs
-
-mul-result : tie.Need-mul-result
-mul-result c = search needs
-
-shr-result : tie.Need-shr-result
-shr-result c = search needs
 
 returns : tie.Need-returns
 returns c =
@@ -43,10 +32,5 @@ pub place-spec : {M : Type 1} → statement M
 place-spec =
     tie.close
     (tie.spec
-    float-to-bits-bits
-    add-digits
-    sub-up-to-63
-    up-to-63-requires
-    mul-result
-    shr-result
+    float-to-bits-bits (λ c. search needs) sub-up-to-63 (λ c κs. search needs) (λ c. search needs) (λ c. search needs)
     returns)

@@ -5,15 +5,10 @@ use Rattle.checks.proofs.Tested.{finite-size}
 use Rattle.checks.proofs.coordinate.Statement.{statement}
 use Rattle.checks.proofs.coordinate.Tie as tie
 
-abs-requires : tie.Need-abs-requires
-abs-requires c κs = search needs
-
-infinity-requires : tie.Need-infinity-requires
-infinity-requires c κs = search needs
-
 returns : tie.Need-returns
 unfolding tested
-returns c = rw (c .before .before .infinity .ensures, c .before .before .before .abs .ensures, finite-size)
+returns c = rw (c .before .before .unreal .ensures, c .before .before .before .abs .ensures, finite-size)
 
 pub coordinate-spec : {M : Type 1} → statement M
-coordinate-spec = tie.close (tie.spec abs-requires infinity-requires returns)
+coordinate-spec =
+    tie.close (tie.spec (λ c κs. search needs) (λ c κs. search needs) returns)

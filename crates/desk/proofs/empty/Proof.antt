@@ -1,9 +1,8 @@
+-- `desk::empty` meets its contract. Assumes nothing.
 use mathlib.Core.Path.{refl}
 use Rattle.desk.proofs.empty.Statement.{statement}
 use Rattle.desk.proofs.empty.Tie as tie
 
-returns : tie.Need-returns
-returns c = refl
-
 pub empty-spec : {M : Type 1} → statement M
-empty-spec = tie.close (tie.spec returns)
+empty-spec =
+    tie.close (tie.spec (λ c. refl))

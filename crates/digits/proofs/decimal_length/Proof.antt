@@ -17,12 +17,6 @@ abbrev μ-loop : tie.MeasureT-loop
 loop-holds : tie.Need-loop-holds Inv-loop μ-loop
 loop-holds c = (omega arith, omega arith, omega arith, omega arith)
 
-add-digits : tie.Need-add-digits Inv-loop μ-loop
-add-digits c = omega arith
-
-loop-less : tie.Need-loop-less Inv-loop μ-loop
-loop-less c = omega arith
-
 loop-again : tie.Need-loop-again Inv-loop μ-loop
 loop-again c =
     let l = c .before .loop in
@@ -37,4 +31,5 @@ returns c =
     omega (arith, few-length (20 - l .digits) (l .rest) (omega arith), rw some at (l .inv .3))
 
 pub decimal-length-spec : {M : Type 1} → statement M
-decimal-length-spec = tie.close (tie.spec Inv-loop μ-loop loop-holds add-digits loop-less loop-again returns)
+decimal-length-spec =
+    tie.close (tie.spec Inv-loop μ-loop loop-holds (λ c. omega arith) (λ c. omega arith) loop-again returns)

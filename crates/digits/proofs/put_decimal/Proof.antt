@@ -21,68 +21,39 @@ Inv-loop out₀ at n digits rest₀ left₀ out rest left =
 abbrev μ-loop : tie.MeasureT-loop
 μ-loop out₀ at n digits rest₀ left₀ out rest left = left
 
-decimal-length-requires : tie.Need-decimal-length-requires Inv-loop μ-loop
-decimal-length-requires c κs = search needs
-
 loop-holds : tie.Need-loop-holds Inv-loop μ-loop
 loop-holds c =
     let z = c .before .before .args in
     let all = decimals-tight 20 (z .n) in
     rw (c .decimal-length .ensures) (decimals-length 20 (z .n), refl, sym (ap length all), ap (λ (l : List ℕ). spliced (z .out .now) (z .at) l) all)
 
-sub-left : tie.Need-sub-left Inv-loop μ-loop
-sub-left c = omega arith
-
-cast-out : tie.Need-cast-out Inv-loop μ-loop
-cast-out c = omega arith
-
-add-out : tie.Need-add-out Inv-loop μ-loop
-add-out c = omega arith
-
-add-out-2 : tie.Need-add-out-2 Inv-loop μ-loop
-add-out-2 c = omega arith
-
-slice-write-out : tie.Need-slice-write-out Inv-loop μ-loop
-slice-write-out c = omega arith
-
-loop-less : tie.Need-loop-less Inv-loop μ-loop
-loop-less c = omega arith
-
 loop-again : tie.Need-loop-again Inv-loop μ-loop
 loop-again c =
+    let decimal-length = c .before .before in
+    let start = decimal-length .before .before in
     let l = c .before .loop in
-    let z = c .before .before .before .before .args in
+    let z = start .args in
     let (left, step) = decimal-step (l .out) (z .at) (l .left) (l .rest) (omega arith) (l .inv .2) (omega arith) in
     (omega arith, simp length-set (l .inv .1), left, step ∙ l .inv .3)
 
 add-result : tie.Need-add-result Inv-loop μ-loop
-add-result c = omega (arith, c .before .before .decimal-length .ensures, decimals-length 20 (c .before .before .before .before .args .n))
-
-same-length : tie.Need-same-length Inv-loop μ-loop
-same-length c = omega arith
+add-result c =
+    let decimal-length = c .before .before in
+    let start = decimal-length .before .before in
+    omega (arith, decimal-length .decimal-length .ensures, decimals-length 20 (start .args .n))
 
 returns : tie.Need-returns Inv-loop μ-loop
 returns c =
+    let decimal-length = c .before .before in
+    let start = decimal-length .before .before in
     let l = c .before .loop in
-    let z = c .before .before .before .before .args in
+    let z = start .args in
     let none : l .left ≡ 0 = omega arith in
-    record { place = ap (λ (i : ℕ). z .at + i) (c .before .before .decimal-length .ensures); out = decimal-done (l .out) (z .at) (l .left) (l .rest) none ∙ l .inv .3 }
+    record { place = ap (λ (i : ℕ). z .at + i) (decimal-length .decimal-length .ensures); out = decimal-done (l .out) (z .at) (l .left) (l .rest) none ∙ l .inv .3 }
 
 pub put-decimal-spec : {M : Type 1} → statement M
 put-decimal-spec =
     tie.close
     (tie.spec
-    Inv-loop
-    μ-loop
-    decimal-length-requires
-    loop-holds
-    sub-left
-    cast-out
-    add-out
-    add-out-2
-    slice-write-out
-    loop-less
-    loop-again
-    add-result
-    same-length
-    returns)
+    Inv-loop μ-loop (λ c κs. search needs) loop-holds (λ c. omega arith) (λ c. omega arith) (λ c. omega arith)
+    (λ c. omega arith) (λ c. omega arith) (λ c. omega arith) loop-again add-result (λ c. omega arith) returns)

@@ -4,12 +4,10 @@ use Rattle.fixed.specs.Size.{sizeOf}
 use Rattle.fixed.proofs.size.Statement.{statement}
 use Rattle.fixed.proofs.size.Tie as tie
 
-pick-requires : tie.Need-pick-requires
-pick-requires c κs = search needs
-
 returns : tie.Need-returns
 unfolding sizeOf
 returns c = c .pick .ensures
 
 pub size-spec : {M : Type 1} → statement M
-size-spec = tie.close (tie.spec pick-requires returns)
+size-spec =
+    tie.close (tie.spec (λ c κs. search needs) returns)

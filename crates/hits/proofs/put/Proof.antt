@@ -7,44 +7,14 @@ use borrow.Author.Needs.{needs}
 use Rattle.hits.proofs.put.Statement.{statement}
 use Rattle.hits.proofs.put.Tie as tie
 
-mul-at : tie.Need-mul-at
-mul-at c = search needs
-
-mul-room : tie.Need-mul-room
-mul-room c = search needs
-
-slice-write-room : tie.Need-slice-write-room
-slice-write-room c = search needs
-
-add-room : tie.Need-add-room
-add-room c = search needs
-
-mul-room-2 : tie.Need-mul-room-2
-mul-room-2 c = search needs
-
 slice-write-room-2 : tie.Need-slice-write-room-2
 slice-write-room-2 c = simp length-set (omega arith)
-
-add-room-2 : tie.Need-add-room-2
-add-room-2 c = search needs
-
-mul-room-3 : tie.Need-mul-room-3
-mul-room-3 c = search needs
 
 slice-write-room-3 : tie.Need-slice-write-room-3
 slice-write-room-3 c = simp length-set (omega arith)
 
-add-room-3 : tie.Need-add-room-3
-add-room-3 c = search needs
-
-mul-room-4 : tie.Need-mul-room-4
-mul-room-4 c = search needs
-
 slice-write-room-4 : tie.Need-slice-write-room-4
 slice-write-room-4 c = simp length-set (omega arith)
-
-same-length : tie.Need-same-length
-same-length c = search needs
 
 returns : tie.Need-returns
 unfolding put
@@ -54,17 +24,6 @@ pub put-spec : {M : Type 1} → statement M
 put-spec =
     tie.close
     (tie.spec
-    mul-at
-    mul-room
-    slice-write-room
-    add-room
-    mul-room-2
-    slice-write-room-2
-    add-room-2
-    mul-room-3
-    slice-write-room-3
-    add-room-3
-    mul-room-4
-    slice-write-room-4
-    same-length
-    returns)
+    (λ c. search needs) (λ c. search needs) (λ c. search needs) (λ c. search needs) (λ c. search needs)
+    slice-write-room-2 (λ c. search needs) (λ c. search needs) slice-write-room-3 (λ c. search needs)
+    (λ c. search needs) slice-write-room-4 (λ c. search needs) returns)

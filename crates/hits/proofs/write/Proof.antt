@@ -6,66 +6,54 @@ use borrow.Author.Needs.{needs}
 use Rattle.hits.proofs.write.Statement.{statement}
 use Rattle.hits.proofs.write.Tie as tie
 
-enum-told : tie.Need-enum-told
-enum-told c = search needs
-
-enum-known-c : tie.Need-enum-known-c
-enum-known-c c = search needs
-
 put-requires : tie.Need-put-requires
 put-requires c κs =
-    let h = rw (c .before .before .c .given .1) at (c .before .before .before .before .before .pre) in
+    let after-c = c .before .before in
+    let start = after-c .before .before .before in
+    let h = rw (after-c .c .given .1) at (start .pre) in
     omega arith
-
-enum-known-c-2 : tie.Need-enum-known-c-2
-enum-known-c-2 c = search needs
 
 put-requires-2 : tie.Need-put-requires-2
 put-requires-2 c κs =
-    let h = rw (c .before .before .c2 .given .1) at (c .before .before .before .before .before .pre) in
+    let c2 = c .before .before in
+    let start = c2 .before .before .before in
+    let h = rw (c2 .c2 .given .1) at (start .pre) in
     omega arith
 
 put-requires-3 : tie.Need-put-requires-3
 put-requires-3 c κs =
-    let start = c .before .before .before .before .before .before .before .before .before in
-    let h = rw (c .before .before .before .before .before .before .c2 .given .1) at (start .pre) in
-    rw (c .before .before .before .put2 .ensures, put-length) (omega arith)
+    let put2 = c .before .before .before in
+    let c2 = put2 .before .before .before in
+    let start = c2 .before .before .before in
+    let h = rw (c2 .c2 .given .1) at (start .pre) in
+    rw (put2 .put2 .ensures, put-length) (omega arith)
 
 returns : tie.Need-returns
 returns c = rw (c .enum-told .given .1) (refl, sym (written-none _))
 
-same-length : tie.Need-same-length
-same-length c = search needs
-
 returns-2 : tie.Need-returns-2
 returns-2 c =
-    let start = c .before .before .before .before .before .before .before .before in
-    let is = c .before .before .before .before .before .c .given .1 in
+    let put = c .before .before in
+    let after-c = put .before .before .before in
+    let start = after-c .before .before .before in
+    let is = after-c .c .given .1 in
     let h = rw is at (start .pre) in
-    rw is (refl, c .before .before .put .ensures ∙ put-first _ (start .args .room .now) h)
-
-same-length-2 : tie.Need-same-length-2
-same-length-2 c = search needs
+    rw is (refl, put .put .ensures ∙ put-first _ (start .args .room .now) h)
 
 returns-3 : tie.Need-returns-3
 returns-3 c =
-    let start = c .before .before .before .before .before .before .before .before .before .before .before .before in
-    let is = c .before .before .before .before .before .before .before .before .before .c2 .given .1 in
+    let put3 = c .before .before in
+    let room2 = put3 .before .before .before in
+    let put2 = room2 .before in
+    let c2 = put2 .before .before .before in
+    let start = c2 .before .before .before in
+    let is = c2 .c2 .given .1 in
     let h = rw is at (start .pre) in
-    rw is (refl, c .before .before .put3 .ensures ∙ put-second _ _ (start .args .room .now) _ (c .before .before .before .before .before .before .put2 .ensures) h)
+    rw is (refl, put3 .put3 .ensures ∙ put-second _ _ (start .args .room .now) _ (put2 .put2 .ensures) h)
 
 pub write-spec : {M : Type 1} → statement M
 write-spec =
     tie.close
     (tie.spec
-    enum-told
-    enum-known-c
-    put-requires
-    enum-known-c-2
-    put-requires-2
-    put-requires-3
-    returns
-    same-length
-    returns-2
-    same-length-2
-    returns-3)
+    (λ c. search needs) (λ c. search needs) put-requires (λ c. search needs) put-requires-2 put-requires-3 returns
+    (λ c. search needs) returns-2 (λ c. search needs) returns-3)

@@ -13,39 +13,25 @@ use borrow.Author.Needs.{needs}
 use Rattle.hunt.proofs.hunt.Statement.{statement}
 use Rattle.hunt.proofs.hunt.Tie as tie
 
-framed-requires : tie.Need-framed-requires
-framed-requires c κs = search needs
-
-span-requires : tie.Need-span-requires
-span-requires c κs = search needs
-
-early-requires : tie.Need-early-requires
-early-requires c κs = search needs
-
-none-requires : tie.Need-none-requires
-none-requires c κs = search needs
-
 returns : tie.Need-returns
 returns c =
-    let z = c .before .before .before .before .before .before .args in
-    let test = hunted-test (z .a) (z .b) _ _ _ true (c .before .before .before .before .framed .ensures) (c .before .before .before .span .ensures) (c .before .before .early .ensures) (c .before .if1 .taken) in
+    let after-early = c .before .before in
+    let after-span = after-early .before in
+    let framed = after-span .before in
+    let start = framed .before .before in
+    let z = start .args in
+    let test = hunted-test (z .a) (z .b) _ _ _ true (framed .framed .ensures) (after-span .span .ensures) (after-early .early .ensures) (c .before .if1 .taken) in
     let is = hunted-early (z .a) (z .b) (z .depth) test in
     record { counts = rw is (c .none .ensures); hits = rw is (sym (written-none _)) }
 
-cells-requires : tie.Need-cells-requires
-cells-requires c κs = search needs
-
-step-requires : tie.Need-step-requires
-step-requires c κs = search needs
-
 scan-requires : tie.Need-scan-requires
 scan-requires c κs =
-    let z = c .before .before .before .before .before .before .before .before .args in
-    let power : 2 ^ z .depth ≤ 2 ^ 7 = pow-mono (c .before .before .before .before .before .before .before .before .pre .0) in
-    rw (c .before .before .cells .ensures) (omega arith, c .before .before .before .before .before .before .before .before .pre .1)
-
-same-length : tie.Need-same-length
-same-length c = search needs
+    let cells = c .before .before in
+    let after-span = cells .before .before .before in
+    let start = after-span .before .before .before in
+    let z = start .args in
+    let power : 2 ^ z .depth ≤ 2 ^ 7 = pow-mono (start .pre .0) in
+    rw (cells .cells .ensures) (omega arith, start .pre .1)
 
 returns-2 : tie.Need-returns-2
 returns-2 c =
@@ -66,13 +52,5 @@ pub hunt-spec : {M : Type 1} → statement M
 hunt-spec =
     tie.close
     (tie.spec
-    framed-requires
-    span-requires
-    early-requires
-    none-requires
-    returns
-    cells-requires
-    step-requires
-    scan-requires
-    same-length
-    returns-2)
+    (λ c κs. search needs) (λ c κs. search needs) (λ c κs. search needs) (λ c κs. search needs) returns
+    (λ c κs. search needs) (λ c κs. search needs) scan-requires (λ c. search needs) returns-2)

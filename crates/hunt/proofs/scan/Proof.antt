@@ -27,55 +27,47 @@ Inv-loop f start step n room₀ lo₀ g-lo₀ t₀ i₀ room lo g-lo t i =
 abbrev μ-loop : tie.MeasureT-loop
 μ-loop f start step n room₀ lo₀ g-lo₀ t₀ i₀ room lo g-lo t i = n - i
 
-value-requires : tie.Need-value-requires Inv-loop μ-loop
-value-requires c κs = search needs
-
-none-requires : tie.Need-none-requires Inv-loop μ-loop
-none-requires c κs = search needs
-
 looked-requires : tie.Need-looked-requires Inv-loop μ-loop
 looked-requires c κs = rw (c .none .ensures) (omega arith)
 
 loop-holds : tie.Need-loop-holds Inv-loop μ-loop
 unfolding sample
 loop-holds c =
-    let z = c .before .before .before .before .args in
-    let first : c .looked .result ≡ tally (scanned (z .f) (z .start) (z .step) 0) = c .looked .ensures ∙ ap (further 1) (c .before .none .ensures) ∙ look-counts none (z .start ∷ []) 1 refl ∙ ap tally (sym (scanned-none (z .f) (z .start) (z .step))) in
-    (omega arith, refl, refl, c .before .before .value .ensures, first, rw (scanned-none (z .f) (z .start) (z .step)) (sym (written-none _)))
-
-add-sample : tie.Need-add-sample Inv-loop μ-loop
-add-sample c = omega arith
-
-sample-requires : tie.Need-sample-requires Inv-loop μ-loop
-sample-requires c κs = search needs
-
-value-requires-2 : tie.Need-value-requires-2 Inv-loop μ-loop
-value-requires-2 c κs = search needs
+    let after-value = c .before .before in
+    let start = after-value .before .before in
+    let z = start .args in
+    let first : c .looked .result ≡ tally (scanned (z .f) (z .start) (z .step) 0) =
+    c .looked .ensures ∙
+    ap (further 1) (c .before .none .ensures) ∙
+    look-counts none (z .start ∷ []) 1 refl ∙
+    ap tally (sym (scanned-none (z .f) (z .start) (z .step))) in
+    (omega arith, refl, refl, after-value .value .ensures, first, rw (scanned-none (z .f) (z .start) (z .step)) (sym (written-none _)))
 
 visit-requires : tie.Need-visit-requires Inv-loop μ-loop
 visit-requires c κs =
-    let z = c .before .before .before .before .before .before .before .before .before .args in
-    let l = c .before .before .before .before .loop in
+    let after-sample = c .before .before in
+    let loop = after-sample .before .before in
+    let after-value = loop .before .before .before in
+    let start = after-value .before .before in
+    let z = start .args in
+    let l = loop .loop in
     let s = scanned-small (z .f) (z .start) (z .step) (l .i) (omega arith) in
     rw (l .inv .4) (s .0, s .1, omega (arith, s .2))
-
-add-i : tie.Need-add-i Inv-loop μ-loop
-add-i c = omega arith
-
-loop-less : tie.Need-loop-less Inv-loop μ-loop
-loop-less c = omega arith
 
 loop-again : tie.Need-loop-again Inv-loop μ-loop
 loop-again c =
     let visited = c .before .before in
     let valued = visited .before .before in
     let sampled = valued .before in
-    let at = sampled .before .before in
-    let z = at .before .before .before .before .before .args in
-    let l = at .loop in
+    let loop = sampled .before .before in
+    let after-value = loop .before .before .before in
+    let start = after-value .before .before in
+    let z = start .args in
+    let l = loop .loop in
     let o = scanned (z .f) (z .start) (z .step) (l .i) in
     let v = visited .visit .ensures o (z .room .now) (l .inv .4) (l .inv .5) in
-    let same = cell-is (z .f) (z .start) (z .step) (l .i) (l .lo) (sampled .sample .result) (l .g-lo) (valued .value2 .result) (l .inv .2) (sampled .sample .ensures) (l .inv .3) (valued .value2 .ensures) in
+    let same = cell-is (z .f) (z .start) (z .step) (l .i) (l .lo) (sampled .sample .result) (l .g-lo) (valued .value2 .result) (l .inv .2)
+    (sampled .sample .ensures) (l .inv .3) (valued .value2 .ensures) in
     let next = sym (scanned-more (z .f) (z .start) (z .step) (l .i)) in (
       omega arith,
       visited .visit .kept .1 .1 .1 .0 ∙ l .inv .1,
@@ -85,12 +77,11 @@ loop-again c =
       v .1 ∙ ap (λ (c : Cell). written (visit (z .f) c o .hits) (z .room .now)) same ∙ ap (λ (x : Outcome). written (x .hits) (z .room .now)) next,
     )
 
-same-length : tie.Need-same-length Inv-loop μ-loop
-same-length c = search needs
-
 returns : tie.Need-returns Inv-loop μ-loop
 returns c =
-    let z = c .before .before .before .before .before .before .args in
+    let after-none = c .before .before .before in
+    let start = after-none .before .before .before in
+    let z = start .args in
     let l = c .before .loop in
     let done : l .i ≡ z .n = omega arith in
     rw (← done) (l .inv .4, l .inv .5)
@@ -99,18 +90,6 @@ pub scan-spec : {M : Type 1} → statement M
 scan-spec =
     tie.close
     (tie.spec
-    Inv-loop
-    μ-loop
-    value-requires
-    none-requires
-    looked-requires
-    loop-holds
-    add-sample
-    sample-requires
-    value-requires-2
-    visit-requires
-    add-i
-    loop-less
-    loop-again
-    same-length
-    returns)
+    Inv-loop μ-loop (λ c κs. search needs) (λ c κs. search needs) looked-requires loop-holds (λ c. omega arith)
+    (λ c κs. search needs) (λ c κs. search needs) visit-requires (λ c. omega arith) (λ c. omega arith) loop-again
+    (λ c. search needs) returns)

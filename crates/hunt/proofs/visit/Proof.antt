@@ -8,25 +8,19 @@ use borrow.Author.Needs.{needs}
 use Rattle.hunt.proofs.visit.Statement.{statement}
 use Rattle.hunt.proofs.visit.Tie as tie
 
-looked-requires : tie.Need-looked-requires
-looked-requires c κs = search needs
-
-bracket-requires : tie.Need-bracket-requires
-bracket-requires c κs = search needs
-
-narrow-requires : tie.Need-narrow-requires
-narrow-requires c κs = search needs
-
 looked-requires-2 : tie.Need-looked-requires-2
 looked-requires-2 c κs = rw (c .before .before .before .looked .ensures) (omega arith)
 
 settle-requires : tie.Need-settle-requires
 settle-requires c κs =
-    let p = c .before .before .before .before .before .before .before .pre in
-    rw (c .before .looked2 .ensures, c .before .before .before .before .before .looked .ensures) (record { hits = p .0 .hits; brackets = p .0 .brackets; outsideA = p .0 .outsideA; outsideB = p .0 .outsideB; doubles = p .0 .doubles }, p .2)
-
-same-length : tie.Need-same-length
-same-length c = search needs
+    let test = c .before .before .before in
+    let looked = test .before .before in
+    let start = looked .before .before in
+    let p = start .pre in
+    rw (c .before .looked2 .ensures, looked .looked .ensures) (
+      record { hits = p .0 .hits; brackets = p .0 .brackets; outsideA = p .0 .outsideA; outsideB = p .0 .outsideB; doubles = p .0 .doubles },
+      p .2,
+    )
 
 returns : tie.Need-returns
 unfolding visit resolve
@@ -48,19 +42,15 @@ returns c =
 returns-2 : tie.Need-returns-2
 unfolding visit
 returns-2 c =
-    let z = c .before .before .before .before .args in
+    let looked = c .before .before in
+    let start = looked .before .before in
+    let z = start .args in
     λ o lent e w.
-    rw (← c .before .bracket .ensures, c .if1 .left) (c .before .before .looked .ensures ∙ ap (further 1) e ∙ look-counts o (z .c .hi ∷ []) 1 refl, w)
+    rw (← c .before .bracket .ensures, c .if1 .left) (looked .looked .ensures ∙ ap (further 1) e ∙ look-counts o (z .c .hi ∷ []) 1 refl, w)
 
 pub visit-spec : {M : Type 1} → statement M
 visit-spec =
     tie.close
     (tie.spec
-    looked-requires
-    bracket-requires
-    narrow-requires
-    looked-requires-2
-    settle-requires
-    same-length
-    returns
-    returns-2)
+    (λ c κs. search needs) (λ c κs. search needs) (λ c κs. search needs) looked-requires-2 settle-requires
+    (λ c. search needs) returns returns-2)

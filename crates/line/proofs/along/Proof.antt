@@ -4,12 +4,10 @@ use borrow.Author.Needs.{needs}
 use Rattle.line.proofs.along.Statement.{statement}
 use Rattle.line.proofs.along.Tie as tie
 
-clamp-requires : tie.Need-clamp-requires
-clamp-requires c κs = search needs
-
 returns : tie.Need-returns
 unfolding along
 returns c = rw (← c .clamp .ensures)
 
 pub along-spec : {M : Type 1} → statement M
-along-spec = tie.close (tie.spec clamp-requires returns)
+along-spec =
+    tie.close (tie.spec (λ c κs. search needs) returns)

@@ -4,12 +4,10 @@ use borrow.Author.Needs.{needs}
 use Rattle.line.proofs.distance.Statement.{statement}
 use Rattle.line.proofs.distance.Tie as tie
 
-norm-requires : tie.Need-norm-requires
-norm-requires c κs = search needs
-
 returns : tie.Need-returns
 unfolding distance
 returns c = rw (← c .norm .ensures)
 
 pub distance-spec : {M : Type 1} → statement M
-distance-spec = tie.close (tie.spec norm-requires returns)
+distance-spec =
+    tie.close (tie.spec (λ c κs. search needs) returns)

@@ -4,16 +4,22 @@ use borrow.Author.Needs.{needs}
 use Rattle.line.proofs.line_line_intersection.Statement.{statement}
 use Rattle.line.proofs.line_line_intersection.Tie as tie
 
-abs-requires : tie.Need-abs-requires
-abs-requires c κs = search needs
-
 returns : tie.Need-returns
 unfolding lineLineIntersection
-returns c = rw (← c .before .before .before .before .before .abs .ensures, c .before .before .before .before .if1 .taken)
+returns c =
+    let struct-known10 = c .before .before in
+    let test = struct-known10 .before .before in
+    let abs = test .before in
+    rw (← abs .abs .ensures, test .if1 .taken)
 
 returns-2 : tie.Need-returns-2
 unfolding lineLineIntersection
-returns-2 c = rw (← c .before .before .before .before .before .before .before .abs .ensures, c .before .before .before .before .before .before .if1 .left)
+returns-2 c =
+    let struct-known15 = c .before .before .before in
+    let test = struct-known15 .before .before .before in
+    let abs = test .before in
+    rw (← abs .abs .ensures, test .if1 .left)
 
 pub line-line-intersection-spec : {M : Type 1} → statement M
-line-line-intersection-spec = tie.close (tie.spec abs-requires returns returns-2)
+line-line-intersection-spec =
+    tie.close (tie.spec (λ c κs. search needs) returns returns-2)

@@ -8,12 +8,10 @@ returns : tie.Need-returns
 unfolding projectOntoSegment
 returns c = rw (c .if1 .taken)
 
-along-requires : tie.Need-along-requires
-along-requires c κs = search needs
-
 returns-2 : tie.Need-returns-2
 unfolding projectOntoSegment
 returns-2 c = rw (c .before .before .before .if1 .left, ← c .before .before .along .ensures)
 
 pub project-onto-segment-spec : {M : Type 1} → statement M
-project-onto-segment-spec = tie.close (tie.spec returns along-requires returns-2)
+project-onto-segment-spec =
+    tie.close (tie.spec returns (λ c κs. search needs) returns-2)

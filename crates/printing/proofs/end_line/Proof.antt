@@ -6,44 +6,66 @@ use borrow.Author.Needs.{needs}
 use Rattle.printing.proofs.end_line.Statement.{statement}
 use Rattle.printing.proofs.end_line.Tie as tie
 
-put-head-requires : tie.Need-put-head-requires
-put-head-requires c κs = search needs
-
 put-count-requires : tie.Need-put-count-requires
 put-count-requires c κs = omega (arith, within (c .before .before .before .put-head .ensures) (head-length _ _))
 
-cast-put-count : tie.Need-cast-put-count
-cast-put-count c = search needs
-
 put-count-requires-2 : tie.Need-put-count-requires-2
-put-count-requires-2 c κs = omega (arith, within (c .before .before .before .before .put-count .ensures) (count-length _), within (c .before .before .before .before .before .before .before .before .put-head .ensures) (head-length _ _))
-
-cast-put-count-2 : tie.Need-cast-put-count-2
-cast-put-count-2 c = search needs
+put-count-requires-2 c κs =
+    let out2 = c .before .before .before in
+    let put-count = out2 .before in
+    let out = put-count .before .before .before in
+    let put-head = out .before in
+    omega (arith, within (put-count .put-count .ensures) (count-length _), within (put-head .put-head .ensures) (head-length _ _))
 
 put-count-requires-3 : tie.Need-put-count-requires-3
-put-count-requires-3 c κs = omega (arith, within (c .before .before .before .before .put-count2 .ensures) (count-length _), within (c .before .before .before .before .before .before .before .before .before .put-count .ensures) (count-length _), within (c .before .before .before .before .before .before .before .before .before .before .before .before .before .put-head .ensures) (head-length _ _))
+put-count-requires-3 c κs =
+    let out3 = c .before .before .before in
+    let put-count2 = out3 .before in
+    let put-count-arg2 = put-count2 .before .before in
+    let put-count = put-count-arg2 .before .before .before in
+    let out = put-count .before .before .before in
+    let put-head = out .before in
+    omega (arith, within (put-count2 .put-count2 .ensures) (count-length _), within (put-count .put-count .ensures) (count-length _), within (put-head .put-head .ensures) (head-length _ _))
 
 put-byte-requires : tie.Need-put-byte-requires
-put-byte-requires c κs = omega (arith, within (c .before .before .before .put-count3 .ensures) (count-length _), within (c .before .before .before .before .before .before .before .before .put-count2 .ensures) (count-length _), within (c .before .before .before .before .before .before .before .before .before .before .before .before .before .put-count .ensures) (count-length _), within (c .before .before .before .before .before .before .before .before .before .before .before .before .before .before .before .before .before .put-head .ensures) (head-length _ _))
-
-same-length : tie.Need-same-length
-same-length c = search needs
+put-byte-requires c κs =
+    let put-count3 = c .before .before .before in
+    let put-count-arg3 = put-count3 .before .before in
+    let put-count2 = put-count-arg3 .before .before .before in
+    let put-count-arg2 = put-count2 .before .before in
+    let put-count = put-count-arg2 .before .before .before in
+    let out = put-count .before .before .before in
+    let put-head = out .before in
+    omega (
+      arith,
+      within (put-count3 .put-count3 .ensures) (count-length _),
+      within (put-count2 .put-count2 .ensures) (count-length _),
+      within (put-count .put-count .ensures) (count-length _),
+      within (put-head .put-head .ensures) (head-length _ _),
+    )
 
 returns : tie.Need-returns
 unfolding endLine
-returns c = put-then (put-then (put-then (put-then (c .before .before .before .before .before .before .before .before .before .before .before .before .before .before .before .before .before .before .before .before .put-head .ensures) (omega arith) (c .before .before .before .before .before .before .before .before .before .before .before .before .before .before .before .before .put-count .ensures)) (omega arith) (c .before .before .before .before .before .before .before .before .before .before .before .put-count2 .ensures)) (omega arith) (c .before .before .before .before .before .before .put-count3 .ensures)) (omega arith) (c .before .before .put-byte .ensures)
+returns c =
+    let put-byte = c .before .before in
+    let out4 = put-byte .before .before .before in
+    let put-count3 = out4 .before in
+    let put-count-arg3 = put-count3 .before .before in
+    let put-count2 = put-count-arg3 .before .before .before in
+    let put-count-arg2 = put-count2 .before .before in
+    let put-count = put-count-arg2 .before .before .before in
+    let out = put-count .before .before .before in
+    let put-head = out .before in
+    put-then
+    (put-then
+    (put-then (put-then (put-head .put-head .ensures) (omega arith) (put-count .put-count .ensures)) (omega arith)
+    (put-count2 .put-count2 .ensures))
+    (omega arith) (put-count3 .put-count3 .ensures))
+    (omega arith) (put-byte .put-byte .ensures)
 
 pub end-line-spec : {M : Type 1} → statement M
 end-line-spec =
     tie.close
     (tie.spec
-    put-head-requires
-    put-count-requires
-    cast-put-count
-    put-count-requires-2
-    cast-put-count-2
-    put-count-requires-3
-    put-byte-requires
-    same-length
-    returns)
+    (λ c κs. search needs) put-count-requires (λ c. search needs) put-count-requires-2 (λ c. search needs)
+    put-count-requires-3 put-byte-requires (λ c. search needs) returns)

@@ -6,32 +6,47 @@ use borrow.Author.Needs.{needs}
 use Rattle.printing.proofs.put_numbers.Statement.{statement}
 use Rattle.printing.proofs.put_numbers.Tie as tie
 
-put-number-requires : tie.Need-put-number-requires
-put-number-requires c κs = search needs
-
 put-number-requires-2 : tie.Need-put-number-requires-2
 put-number-requires-2 c κs = omega (arith, within (c .before .before .before .put-number .ensures) (number-length _))
 
 put-number-requires-3 : tie.Need-put-number-requires-3
-put-number-requires-3 c κs = omega (arith, within (c .before .before .before .put-number2 .ensures) (number-length _), within (c .before .before .before .before .before .before .before .put-number .ensures) (number-length _))
+put-number-requires-3 c κs =
+    let put-number2 = c .before .before .before in
+    let out = put-number2 .before .before .before in
+    let put-number = out .before in
+    omega (arith, within (put-number2 .put-number2 .ensures) (number-length _), within (put-number .put-number .ensures) (number-length _))
 
 put-number-requires-4 : tie.Need-put-number-requires-4
-put-number-requires-4 c κs = omega (arith, within (c .before .before .before .put-number3 .ensures) (number-length _), within (c .before .before .before .before .before .before .before .put-number2 .ensures) (number-length _), within (c .before .before .before .before .before .before .before .before .before .before .before .put-number .ensures) (number-length _))
-
-same-length : tie.Need-same-length
-same-length c = search needs
+put-number-requires-4 c κs =
+    let put-number3 = c .before .before .before in
+    let out2 = put-number3 .before .before .before in
+    let put-number2 = out2 .before in
+    let out = put-number2 .before .before .before in
+    let put-number = out .before in
+    omega (
+      arith,
+      within (put-number3 .put-number3 .ensures) (number-length _),
+      within (put-number2 .put-number2 .ensures) (number-length _),
+      within (put-number .put-number .ensures) (number-length _),
+    )
 
 returns : tie.Need-returns
 unfolding numbers
-returns c = put-then (put-then (put-then (c .before .before .before .before .before .before .before .before .before .before .before .before .before .before .put-number .ensures) (omega arith) (c .before .before .before .before .before .before .before .before .before .before .put-number2 .ensures)) (omega arith) (c .before .before .before .before .before .before .put-number3 .ensures)) (omega arith) (c .before .before .put-number4 .ensures)
+returns c =
+    let put-number4 = c .before .before in
+    let out3 = put-number4 .before .before .before in
+    let put-number3 = out3 .before in
+    let out2 = put-number3 .before .before .before in
+    let put-number2 = out2 .before in
+    let out = put-number2 .before .before .before in
+    let put-number = out .before in
+    put-then
+    (put-then (put-then (put-number .put-number .ensures) (omega arith) (put-number2 .put-number2 .ensures)) (omega arith)
+    (put-number3 .put-number3 .ensures))
+    (omega arith) (put-number4 .put-number4 .ensures)
 
 pub put-numbers-spec : {M : Type 1} → statement M
 put-numbers-spec =
     tie.close
     (tie.spec
-    put-number-requires
-    put-number-requires-2
-    put-number-requires-3
-    put-number-requires-4
-    same-length
-    returns)
+    (λ c κs. search needs) put-number-requires-2 put-number-requires-3 put-number-requires-4 (λ c. search needs) returns)

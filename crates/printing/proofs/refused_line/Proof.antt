@@ -6,22 +6,26 @@ use borrow.Author.Needs.{needs}
 use Rattle.printing.proofs.refused_line.Statement.{statement}
 use Rattle.printing.proofs.refused_line.Tie as tie
 
-put-head-requires : tie.Need-put-head-requires
-put-head-requires c κs = search needs
-
 put-count-requires : tie.Need-put-count-requires
 put-count-requires c κs = omega (arith, within (c .before .before .before .put-head .ensures) (head-length _ _))
 
 put-byte-requires : tie.Need-put-byte-requires
-put-byte-requires c κs = omega (arith, within (c .before .before .before .put-count .ensures) (count-length _), within (c .before .before .before .before .before .before .before .put-head .ensures) (head-length _ _))
-
-same-length : tie.Need-same-length
-same-length c = search needs
+put-byte-requires c κs =
+    let put-count = c .before .before .before in
+    let out = put-count .before .before .before in
+    let put-head = out .before in
+    omega (arith, within (put-count .put-count .ensures) (count-length _), within (put-head .put-head .ensures) (head-length _ _))
 
 returns : tie.Need-returns
 unfolding refusedLine
-returns c = put-then (put-then (c .before .before .before .before .before .before .before .before .before .before .put-head .ensures) (omega arith) (c .before .before .before .before .before .before .put-count .ensures)) (omega arith) (c .before .before .put-byte .ensures)
+returns c =
+    let put-byte = c .before .before in
+    let out2 = put-byte .before .before .before in
+    let put-count = out2 .before in
+    let out = put-count .before .before .before in
+    let put-head = out .before in
+    put-then (put-then (put-head .put-head .ensures) (omega arith) (put-count .put-count .ensures)) (omega arith) (put-byte .put-byte .ensures)
 
 pub refused-line-spec : {M : Type 1} → statement M
 refused-line-spec =
-    tie.close (tie.spec put-head-requires put-count-requires put-byte-requires same-length returns)
+    tie.close (tie.spec (λ c κs. search needs) put-count-requires put-byte-requires (λ c. search needs) returns)

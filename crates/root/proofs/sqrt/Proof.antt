@@ -35,11 +35,11 @@ returns-2 c =
 returns-3 : tie.Need-returns-3
 returns-3 c = root-of-zero (c .before .before .args .x) (c .if3 .taken)
 
-not-a-number-requires : tie.Need-not-a-number-requires
-not-a-number-requires c κs = search needs
-
 returns-4 : tie.Need-returns-4
 returns-4 c = c .not-a-number .ensures ∙ root-of-none (c .before .before .before .args .x) (c .before .before .if1 .left) (c .before .if3 .left)
 
 pub sqrt-spec : {M : Type 1} → statement M
-sqrt-spec = tie.close (tie.spec float-to-bits-bits root-requires float-from-bits-result returns returns-2 returns-3 not-a-number-requires returns-4)
+sqrt-spec =
+    tie.close
+    (tie.spec
+    float-to-bits-bits root-requires float-from-bits-result returns returns-2 returns-3 (λ c κs. search needs) returns-4)

@@ -14,9 +14,6 @@ use Rattle.scalar.proofs.abs.Tie as tie
 held : (c : tie.Start) → T (fits binary64 (c .args .x))
 held c = subst T (sym (c .good .0 .1)) tt
 
-not-a-number-requires : tie.Need-not-a-number-requires
-not-a-number-requires c κs = search needs
-
 returns : tie.Need-returns
 unfolding abs
 returns c = c .not-a-number .ensures ∙ sym (ap abs (nan-test _ (c .before .if1 .taken)))
@@ -32,5 +29,4 @@ returns-2 c = ofBits-abs _ ∙ ap abs (ofBits-toBits binary64 _ (held (c .before
 
 pub abs-spec : {M : Type 1} → statement M
 abs-spec =
-    tie.close
-    (tie.spec not-a-number-requires returns float-to-bits-result float-from-bits-result returns-2)
+    tie.close (tie.spec (λ c κs. search needs) returns float-to-bits-result float-from-bits-result returns-2)

@@ -22,11 +22,9 @@ returns-2 c = simp (range (c .before .before .before) (c .before .before .if1 .t
 returns-3 : tie.Need-returns-3
 returns-3 c = simp (range (c .before .before .before) (c .before .before .if1 .taken), c .before .if2 .left, c .if3 .left)
 
-not-a-number-requires : tie.Need-not-a-number-requires
-not-a-number-requires c κs = search needs
-
 returns-4 : tie.Need-returns-4
 returns-4 c = c .not-a-number .ensures ∙ sym (clamp-no-range _ _ _ (c .before .if1 .left))
 
 pub clamp-spec : {M : Type 1} → statement M
-clamp-spec = tie.close (tie.spec returns returns-2 returns-3 not-a-number-requires returns-4)
+clamp-spec =
+    tie.close (tie.spec returns returns-2 returns-3 (λ c κs. search needs) returns-4)

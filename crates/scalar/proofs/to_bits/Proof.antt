@@ -1,7 +1,6 @@
 -- `scalar::to_bits` meets its contract: the pattern of the NaN is computed. Assumes nothing.
-use mathlib.Core.Path.{refl, sym, ap, _∙_}
-use lib.Ieee.{Float, binary64, toBits}
-use lib.Ieee.Compare.{differs-from-itself}
+use mathlib.Core.Path.{refl, sym, ap}
+use lib.Ieee.{binary64, toBits}
 use Rattle.laws.proofs.Tests.{number-test, nan-test}
 use Rattle.scalar.proofs.to_bits.Statement.{statement}
 use Rattle.scalar.proofs.to_bits.Tie as tie
@@ -13,8 +12,6 @@ returns c = sym (ap (toBits binary64) (nan-test _ (c .if1 .taken)))
 float-to-bits-result : tie.Need-float-to-bits-result
 float-to-bits-result c = number-test _ (c .if1 .left)
 
-returns-2 : tie.Need-returns-2
-returns-2 c = refl
-
 pub to-bits-spec : {M : Type 1} → statement M
-to-bits-spec = tie.close (tie.spec returns float-to-bits-result returns-2)
+to-bits-spec =
+    tie.close (tie.spec returns float-to-bits-result (λ c. refl))

@@ -5,14 +5,9 @@ use Rattle.laws.proofs.Tests.{nan-test}
 use Rattle.scalar.proofs.with_one_nan.Statement.{statement}
 use Rattle.scalar.proofs.with_one_nan.Tie as tie
 
-not-a-number-requires : tie.Need-not-a-number-requires
-not-a-number-requires c κs = search needs
-
 returns : tie.Need-returns
 returns c = c .not-a-number .ensures ∙ sym (nan-test _ (c .before .if1 .taken))
 
-returns-2 : tie.Need-returns-2
-returns-2 c = search needs
-
 pub with-one-nan-spec : {M : Type 1} → statement M
-with-one-nan-spec = tie.close (tie.spec not-a-number-requires returns returns-2)
+with-one-nan-spec =
+    tie.close (tie.spec (λ c κs. search needs) returns (λ c. search needs))

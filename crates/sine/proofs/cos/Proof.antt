@@ -3,11 +3,9 @@ use borrow.Author.Needs.{needs}
 use Rattle.sine.proofs.cos.Statement.{statement}
 use Rattle.sine.proofs.cos.Tie as tie
 
-sin-cos-requires : tie.Need-sin-cos-requires
-sin-cos-requires c κs = search needs
-
 returns : tie.Need-returns
 returns c = c .sin-cos .ensures .1
 
 pub cos-spec : {M : Type 1} → statement M
-cos-spec = tie.close (tie.spec sin-cos-requires returns)
+cos-spec =
+    tie.close (tie.spec (λ c κs. search needs) returns)

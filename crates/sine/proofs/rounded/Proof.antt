@@ -7,9 +7,6 @@ use Rattle.sine.proofs.Splits.{node-sine-small, node-cosine-small, vers
 use Rattle.sine.proofs.rounded.Statement.{statement}
 use Rattle.sine.proofs.rounded.Tie as tie
 
-split-requires : tie.Need-split-requires
-split-requires c κs = search needs
-
 turned-requires : tie.Need-turned-requires
 turned-requires c κs =
     let p = c .split .ensures in
@@ -22,30 +19,34 @@ turned-requires-2 c κs =
 
 rounded-requires : tie.Need-rounded-requires
 rounded-requires c κs =
-    let n = c .before .before .before .before .args .n in
-    let t : c .before .before .turned .result ≡ sineUnits n = c .before .before .turned .ensures ∙ parts-sine (c .before .before .before .split .ensures) in
+    let turned = c .before .before in
+    let split = turned .before in
+    let start = split .before in
+    let n = start .args .n in
+    let t : turned .turned .result ≡ sineUnits n = turned .turned .ensures ∙ parts-sine (split .split .ensures) in
     rw t (sine-units-lt n)
 
 rounded-requires-2 : tie.Need-rounded-requires-2
 rounded-requires-2 c κs =
-    let n = c .before .before .before .before .before .args .n in
-    let u : c .before .turned2 .result ≡ cosineUnits n = c .before .turned2 .ensures ∙ parts-cosine (c .before .before .before .before .split .ensures) in
+    let turned = c .before .before .before in
+    let split = turned .before in
+    let start = split .before in
+    let n = start .args .n in
+    let u : c .before .turned2 .result ≡ cosineUnits n = c .before .turned2 .ensures ∙ parts-cosine (split .split .ensures) in
     rw u (cosine-units-lt n)
 
 returns : tie.Need-returns
 returns c =
-    let p = c .before .before .before .before .before .split .ensures in
-    let t = c .before .before .before .before .turned .ensures ∙ parts-sine p in
-    let u = c .before .before .turned2 .ensures ∙ parts-cosine p in
+    let turned2 = c .before .before in
+    let turned = turned2 .before .before in
+    let split = turned .before in
+    let p = split .split .ensures in
+    let t = turned .turned .ensures ∙ parts-sine p in
+    let u = turned2 .turned2 .ensures ∙ parts-cosine p in
     (rw t at (c .before .rounded .ensures), rw u at (c .rounded2 .ensures))
 
 pub rounded-spec : {M : Type 1} → statement M
 rounded-spec =
     tie.close
     (tie.spec
-    split-requires
-    turned-requires
-    turned-requires-2
-    rounded-requires
-    rounded-requires-2
-    returns)
+    (λ c κs. search needs) turned-requires turned-requires-2 rounded-requires rounded-requires-2 returns)

@@ -14,30 +14,25 @@ returns c = record { refusal = rw (lt-ltb _ _ (c .if1 .taken)) refl; values = re
 returns-2 : tie.Need-returns-2
 returns-2 c = record { refusal = rw (le-ltb _ _ (c .before .if1 .left), lt-ltb _ _ (c .if2 .taken)) refl; values = refl; told = refl }
 
-hit-requires : tie.Need-hit-requires
-hit-requires c κs = tt
-
 place-requires : tie.Need-place-requires
 place-requires c κs =
-    let z = c .before .before .before .before .before .before .before .args in
-    rw (c .before .hit .ensures) (le-trans (part-short (z .room .now) (z .count) (z .i)) (c .before .before .before .if1 .left))
-
-slice-write-counts : tie.Need-slice-write-counts
-slice-write-counts c = search needs
-
-same-length : tie.Need-same-length
-same-length c = search needs
-
-same-length-2 : tie.Need-same-length-2
-same-length-2 c = search needs
+    let test = c .before .before .before in
+    let slice-known = test .before .before in
+    let start = slice-known .before .before in
+    let z = start .args in
+    rw (c .before .hit .ensures) (le-trans (part-short (z .room .now) (z .count) (z .i)) (test .if1 .left))
 
 returns-3 : tie.Need-returns-3
 unfolding placed
 returns-3 c =
-    let part = c .before .before .before .before .hit .ensures in
+    let place = c .before .before in
+    let hit = place .before .before in
+    let test2 = hit .before in
+    let test = test2 .before in
+    let part = hit .hit .ensures in
     record {
-      refusal = rw (le-ltb _ _ (c .before .before .before .before .before .before .if1 .left), le-ltb _ _ (c .before .before .before .before .before .if2 .left)) refl;
-      values = rw (← part) (c .before .before .place .ensures);
+      refusal = rw (le-ltb _ _ (test .if1 .left), le-ltb _ _ (test2 .if2 .left)) refl;
+      values = rw (← part) (place .place .ensures);
       told = rw (← part) refl;
     }
 
@@ -45,11 +40,4 @@ pub arcs-hit-spec : {M : Type 1} → statement M
 arcs-hit-spec =
     tie.close
     (tie.spec
-    returns
-    returns-2
-    hit-requires
-    place-requires
-    slice-write-counts
-    same-length
-    same-length-2
-    returns-3)
+    returns returns-2 (λ c κs. tt) place-requires (λ c. search needs) (λ c. search needs) (λ c. search needs) returns-3)

@@ -6,47 +6,28 @@ use borrow.Author.Needs.{needs}
 use Rattle.arcs_c.proofs.closed.arcs_intersect_segments.Statement.{statement}
 use Rattle.arcs_c.proofs.closed.arcs_intersect_segments.Tie as tie
 
-slice-aggregate-intersect-segments : tie.Need-slice-aggregate-intersect-segments
-slice-aggregate-intersect-segments c = search needs
-
-intersect-segments-requires : tie.Need-intersect-segments-requires
-intersect-segments-requires c κs = tt
-
-found-refusal-requires : tie.Need-found-refusal-requires
-found-refusal-requires c κs = tt
-
 returns : tie.Need-returns
-returns c = rw (c .found-refusal .ensures) (hits-short (segmentsAsked _ _ _ _) (c .before .before .intersect-segments .ensures) (refusal-short _ _ _ _ _ (omega arith)) (c .before .before .before .before .if1 .taken))
-
-intersect-segments-requires-2 : tie.Need-intersect-segments-requires-2
-intersect-segments-requires-2 c κs = tt
-
-count-found-requires : tie.Need-count-found-requires
-count-found-requires c κs = search needs
-
-found-refusal-requires-2 : tie.Need-found-refusal-requires-2
-found-refusal-requires-2 c κs = tt
-
-same-length : tie.Need-same-length
-same-length c = search needs
-
-same-length-2 : tie.Need-same-length-2
-same-length-2 c = search needs
+returns c =
+    let intersect-segments = c .before .before in
+    let test = intersect-segments .before .before in
+    rw (c .found-refusal .ensures)
+    (hits-short (segmentsAsked _ _ _ _) (intersect-segments .intersect-segments .ensures) (refusal-short _ _ _ _ _ (omega arith))
+    (test .if1 .taken))
 
 returns-2 : tie.Need-returns-2
-returns-2 c = rw (c .found-refusal2 .ensures) (hits-out (segmentsAsked _ _ _ _) (c .before .before .before .before .before .before .before .intersect-segments2 .ensures) (c .before .before .before .before .before .before .before .before .before .if1 .left) (c .before .before .before .count-found .ensures))
+returns-2 c =
+    let count-found = c .before .before .before in
+    let room = count-found .before .before .before in
+    let intersect-segments2 = room .before in
+    let test = intersect-segments2 .before .before in
+    rw (c .found-refusal2 .ensures)
+    (hits-out (segmentsAsked _ _ _ _) (intersect-segments2 .intersect-segments2 .ensures)
+    (test .if1 .left)
+    (count-found .count-found .ensures))
 
 pub arcs-intersect-segments-spec : {M : Type 1} → statement M
 arcs-intersect-segments-spec =
     tie.close
     (tie.spec
-    slice-aggregate-intersect-segments
-    intersect-segments-requires
-    found-refusal-requires
-    returns
-    intersect-segments-requires-2
-    count-found-requires
-    found-refusal-requires-2
-    same-length
-    same-length-2
-    returns-2)
+    (λ c. search needs) (λ c κs. tt) (λ c κs. tt) returns (λ c κs. tt) (λ c κs. search needs) (λ c κs. tt)
+    (λ c. search needs) (λ c. search needs) returns-2)

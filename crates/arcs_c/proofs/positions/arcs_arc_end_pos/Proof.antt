@@ -3,20 +3,13 @@ use borrow.Author.Needs.{needs}
 use Rattle.arcs_c.proofs.positions.arcs_arc_end_pos.Statement.{statement}
 use Rattle.arcs_c.proofs.positions.arcs_arc_end_pos.Tie as tie
 
-arc-requires : tie.Need-arc-requires
-arc-requires c κs = tt
-
-arc-end-pos-requires : tie.Need-arc-end-pos-requires
-arc-end-pos-requires c κs = tt
-
-give-pair-requires : tie.Need-give-pair-requires
-give-pair-requires c κs = tt
-
-same-length : tie.Need-same-length
-same-length c = search needs
-
 returns : tie.Need-returns
-returns c = rw (← c .before .before .before .before .before .arc .ensures) (rw (c .before .before .before .before .arc-end-pos .ensures) at (c .before .before .give-pair .ensures))
+returns c =
+    let give-pair = c .before .before in
+    let arc-end-pos = give-pair .before .before in
+    let arc = arc-end-pos .before in
+    rw (← arc .arc .ensures) (rw (arc-end-pos .arc-end-pos .ensures) at (give-pair .give-pair .ensures))
 
 pub arcs-arc-end-pos-spec : {M : Type 1} → statement M
-arcs-arc-end-pos-spec = tie.close (tie.spec arc-requires arc-end-pos-requires give-pair-requires same-length returns)
+arcs-arc-end-pos-spec =
+    tie.close (tie.spec (λ c κs. tt) (λ c κs. tt) (λ c κs. tt) (λ c. search needs) returns)

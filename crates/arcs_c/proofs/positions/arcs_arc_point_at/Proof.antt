@@ -3,20 +3,13 @@ use borrow.Author.Needs.{needs}
 use Rattle.arcs_c.proofs.positions.arcs_arc_point_at.Statement.{statement}
 use Rattle.arcs_c.proofs.positions.arcs_arc_point_at.Tie as tie
 
-arc-requires : tie.Need-arc-requires
-arc-requires c κs = tt
-
-arc-point-at-requires : tie.Need-arc-point-at-requires
-arc-point-at-requires c κs = tt
-
-give-pair-requires : tie.Need-give-pair-requires
-give-pair-requires c κs = tt
-
-same-length : tie.Need-same-length
-same-length c = search needs
-
 returns : tie.Need-returns
-returns c = rw (← c .before .before .before .before .before .arc .ensures) (rw (c .before .before .before .before .arc-point-at .ensures) at (c .before .before .give-pair .ensures))
+returns c =
+    let give-pair = c .before .before in
+    let arc-point-at = give-pair .before .before in
+    let arc = arc-point-at .before in
+    rw (← arc .arc .ensures) (rw (arc-point-at .arc-point-at .ensures) at (give-pair .give-pair .ensures))
 
 pub arcs-arc-point-at-spec : {M : Type 1} → statement M
-arcs-arc-point-at-spec = tie.close (tie.spec arc-requires arc-point-at-requires give-pair-requires same-length returns)
+arcs-arc-point-at-spec =
+    tie.close (tie.spec (λ c κs. tt) (λ c κs. tt) (λ c κs. tt) (λ c. search needs) returns)

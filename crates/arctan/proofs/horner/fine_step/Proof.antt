@@ -8,15 +8,9 @@ use borrow.Author.Needs.{needs}
 use Rattle.arctan.proofs.horner.fine_step.Statement.{statement}
 use Rattle.arctan.proofs.horner.fine_step.Tie as tie
 
-high-requires : tie.Need-high-requires
-high-requires c κs = search needs
-
 add-result : tie.Need-add-result
 add-result c =
     omega (arith, c .high .ensures, c .before .pre .0 .1, high-small (c .before .args .q) (c .before .args .h) (c .before .pre .1 .0) (c .before .pre .1 .1))
-
-sub-result : tie.Need-sub-result
-sub-result c = search needs
 
 returns : tie.Need-returns
 unfolding fineStep
@@ -26,4 +20,5 @@ returns c =
     (rw e refl, rw e n)
 
 pub fine-step-spec : {M : Type 1} → statement M
-fine-step-spec = tie.close (tie.spec high-requires add-result sub-result returns)
+fine-step-spec =
+    tie.close (tie.spec (λ c κs. search needs) add-result (λ c. search needs) returns)

@@ -5,12 +5,10 @@ use borrow.Author.Needs.{needs}
 use Rattle.arctan.proofs.horner.float.Statement.{statement}
 use Rattle.arctan.proofs.horner.float.Tie as tie
 
-nearest-u64-to-f64-requires : tie.Need-nearest-u64-to-f64-requires
-nearest-u64-to-f64-requires c κs = search needs
-
 returns : tie.Need-returns
 unfolding floatOf
 returns c = rw (c .nearest-u64-to-f64 .ensures) refl
 
 pub float-spec : {M : Type 1} → statement M
-float-spec = tie.close (tie.spec nearest-u64-to-f64-requires returns)
+float-spec =
+    tie.close (tie.spec (λ c κs. search needs) returns)

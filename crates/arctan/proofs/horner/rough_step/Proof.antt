@@ -7,15 +7,9 @@ use borrow.Author.Needs.{needs}
 use Rattle.arctan.proofs.horner.rough_step.Statement.{statement}
 use Rattle.arctan.proofs.horner.rough_step.Tie as tie
 
-rough-requires : tie.Need-rough-requires
-rough-requires c κs = search needs
-
 add-result : tie.Need-add-result
 add-result c =
     omega (arith, c .rough .ensures, c .before .pre .0 .1, rough-small (c .before .args .q) (c .before .args .h) (c .before .pre .1 .0) (c .before .pre .1 .1))
-
-sub-result : tie.Need-sub-result
-sub-result c = search needs
 
 returns : tie.Need-returns
 unfolding roughStep
@@ -25,4 +19,5 @@ returns c =
     (rw e refl, rw e n)
 
 pub rough-step-spec : {M : Type 1} → statement M
-rough-step-spec = tie.close (tie.spec rough-requires add-result sub-result returns)
+rough-step-spec =
+    tie.close (tie.spec (λ c κs. search needs) add-result (λ c. search needs) returns)

@@ -4,12 +4,10 @@ use borrow.Author.Needs.{needs}
 use Rattle.conics.proofs.axes.eigenvalues.Statement.{statement}
 use Rattle.conics.proofs.axes.eigenvalues.Tie as tie
 
-sqrt-requires : tie.Need-sqrt-requires
-sqrt-requires c κs = search needs
-
 returns : tie.Need-returns
 unfolding eigenvalues
 returns c = rw (← c .sqrt .ensures)
 
 pub eigenvalues-spec : {M : Type 1} → statement M
-eigenvalues-spec = tie.close (tie.spec sqrt-requires returns)
+eigenvalues-spec =
+    tie.close (tie.spec (λ c κs. search needs) returns)

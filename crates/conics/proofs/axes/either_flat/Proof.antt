@@ -4,12 +4,6 @@ use borrow.Author.Needs.{needs}
 use Rattle.conics.proofs.axes.either_flat.Statement.{statement}
 use Rattle.conics.proofs.axes.either_flat.Tie as tie
 
-abs-requires : tie.Need-abs-requires
-abs-requires c κs = search needs
-
-abs-requires-2 : tie.Need-abs-requires-2
-abs-requires-2 c κs = search needs
-
 returns : tie.Need-returns
 unfolding eitherFlat
 returns c = rw (← c .before .before .abs .ensures, ← c .before .abs2 .ensures, c .if1 .taken)
@@ -19,4 +13,5 @@ unfolding eitherFlat
 returns-2 c = rw (← c .before .before .abs .ensures, ← c .before .abs2 .ensures, c .if1 .left)
 
 pub either-flat-spec : {M : Type 1} → statement M
-either-flat-spec = tie.close (tie.spec abs-requires abs-requires-2 returns returns-2)
+either-flat-spec =
+    tie.close (tie.spec (λ c κs. search needs) (λ c κs. search needs) returns returns-2)

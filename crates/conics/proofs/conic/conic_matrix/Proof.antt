@@ -4,36 +4,18 @@ use borrow.Author.Needs.{needs}
 use Rattle.conics.proofs.conic.conic_matrix.Statement.{statement}
 use Rattle.conics.proofs.conic.conic_matrix.Tie as tie
 
-entry-requires : tie.Need-entry-requires
-entry-requires c κs = search needs
-
-entry-requires-2 : tie.Need-entry-requires-2
-entry-requires-2 c κs = search needs
-
-entry-requires-3 : tie.Need-entry-requires-3
-entry-requires-3 c κs = search needs
-
-entry-requires-4 : tie.Need-entry-requires-4
-entry-requires-4 c κs = search needs
-
-entry-requires-5 : tie.Need-entry-requires-5
-entry-requires-5 c κs = search needs
-
-entry-requires-6 : tie.Need-entry-requires-6
-entry-requires-6 c κs = search needs
-
 returns : tie.Need-returns
 unfolding conicMatrix
-returns c = rw (← c .before .before .before .before .before .entry .ensures, ← c .before .before .before .before .entry2 .ensures, ← c .before .before .before .entry3 .ensures, ← c .before .before .entry4 .ensures, ← c .before .entry5 .ensures, ← c .entry6 .ensures)
+returns c =
+    let entry4 = c .before .before in
+    let entry3 = entry4 .before in
+    let entry2 = entry3 .before in
+    let entry = entry2 .before in
+    rw (← entry .entry .ensures, ← entry2 .entry2 .ensures, ← entry3 .entry3 .ensures, ← entry4 .entry4 .ensures, ← c .before .entry5 .ensures, ← c .entry6 .ensures)
 
 pub conic-matrix-spec : {M : Type 1} → statement M
 conic-matrix-spec =
     tie.close
     (tie.spec
-    entry-requires
-    entry-requires-2
-    entry-requires-3
-    entry-requires-4
-    entry-requires-5
-    entry-requires-6
-    returns)
+    (λ c κs. search needs) (λ c κs. search needs) (λ c κs. search needs) (λ c κs. search needs) (λ c κs. search needs)
+    (λ c κs. search needs) returns)

@@ -4,33 +4,28 @@ use borrow.Author.Needs.{needs}
 use Rattle.construct.proofs.svg.angle.Statement.{statement}
 use Rattle.construct.proofs.svg.angle.Tie as tie
 
-norm-requires : tie.Need-norm-requires
-norm-requires c κs = search needs
-
-norm-requires-2 : tie.Need-norm-requires-2
-norm-requires-2 c κs = search needs
-
-clamp-requires : tie.Need-clamp-requires
-clamp-requires c κs = search needs
-
-acos-requires : tie.Need-acos-requires
-acos-requires c κs = search needs
-
 returns : tie.Need-returns
 unfolding angle
-returns c = rw (← c .before .before .before .before .before .before .before .before .norm .ensures, ← c .before .before .before .before .before .before .before .norm2 .ensures, ← c .before .before .before .before .before .before .clamp .ensures, ← c .before .before .before .before .before .acos .ensures, c .if1 .taken)
+returns c =
+    let struct-known6 = c .before .before .before in
+    let acos = struct-known6 .before .before in
+    let clamp = acos .before in
+    let norm2 = clamp .before in
+    let norm = norm2 .before in
+    rw (← norm .norm .ensures, ← norm2 .norm2 .ensures, ← clamp .clamp .ensures, ← acos .acos .ensures, c .if1 .taken)
 
 returns-2 : tie.Need-returns-2
 unfolding angle
-returns-2 c = rw (← c .before .before .before .before .before .before .before .before .norm .ensures, ← c .before .before .before .before .before .before .before .norm2 .ensures, ← c .before .before .before .before .before .before .clamp .ensures, ← c .before .before .before .before .before .acos .ensures, c .if1 .left)
+returns-2 c =
+    let struct-known6 = c .before .before .before in
+    let acos = struct-known6 .before .before in
+    let clamp = acos .before in
+    let norm2 = clamp .before in
+    let norm = norm2 .before in
+    rw (← norm .norm .ensures, ← norm2 .norm2 .ensures, ← clamp .clamp .ensures, ← acos .acos .ensures, c .if1 .left)
 
 pub angle-spec : {M : Type 1} → statement M
 angle-spec =
     tie.close
     (tie.spec
-    norm-requires
-    norm-requires-2
-    clamp-requires
-    acos-requires
-    returns
-    returns-2)
+    (λ c κs. search needs) (λ c κs. search needs) (λ c κs. search needs) (λ c κs. search needs) returns returns-2)

@@ -4,9 +4,6 @@ use borrow.Author.Needs.{needs}
 use Rattle.construct.proofs.svg.enlarged.Statement.{statement}
 use Rattle.construct.proofs.svg.enlarged.Tie as tie
 
-sqrt-requires : tie.Need-sqrt-requires
-sqrt-requires c κs = search needs
-
 returns : tie.Need-returns
 unfolding enlarged
 returns c = rw (c .before .before .before .if1 .taken, ← c .before .before .sqrt .ensures)
@@ -16,4 +13,5 @@ unfolding enlarged
 returns-2 c = rw (c .if1 .left)
 
 pub enlarged-spec : {M : Type 1} → statement M
-enlarged-spec = tie.close (tie.spec sqrt-requires returns returns-2)
+enlarged-spec =
+    tie.close (tie.spec (λ c κs. search needs) returns returns-2)

@@ -4,15 +4,10 @@ use borrow.Author.Needs.{needs}
 use Rattle.construct.proofs.svg.identical.Statement.{statement}
 use Rattle.construct.proofs.svg.identical.Tie as tie
 
-abs-requires : tie.Need-abs-requires
-abs-requires c κs = search needs
-
-abs-requires-2 : tie.Need-abs-requires-2
-abs-requires-2 c κs = search needs
-
 returns : tie.Need-returns
 unfolding identical
 returns c = rw (← c .before .before .before .abs .ensures, ← c .abs2 .ensures)
 
 pub identical-spec : {M : Type 1} → statement M
-identical-spec = tie.close (tie.spec abs-requires abs-requires-2 returns)
+identical-spec =
+    tie.close (tie.spec (λ c κs. search needs) (λ c κs. search needs) returns)

@@ -4,15 +4,14 @@ use borrow.Author.Needs.{needs}
 use Rattle.construct.proofs.svg.primed_center.Statement.{statement}
 use Rattle.construct.proofs.svg.primed_center.Tie as tie
 
-quotient-root-requires : tie.Need-quotient-root-requires
-quotient-root-requires c κs = search needs
-
-sign-requires : tie.Need-sign-requires
-sign-requires c κs = search needs
-
 returns : tie.Need-returns
 unfolding primedCenter
-returns c = rw (← c .before .before .before .before .before .before .before .quotient-root .ensures, ← c .before .before .before .before .before .before .sign .ensures)
+returns c =
+    let struct-known3 = c .before .before .before in
+    let sign = struct-known3 .before .before .before in
+    let quotient-root = sign .before in
+    rw (← quotient-root .quotient-root .ensures, ← sign .sign .ensures)
 
 pub primed-center-spec : {M : Type 1} → statement M
-primed-center-spec = tie.close (tie.spec quotient-root-requires sign-requires returns)
+primed-center-spec =
+    tie.close (tie.spec (λ c κs. search needs) (λ c κs. search needs) returns)

@@ -4,12 +4,10 @@ use borrow.Author.Needs.{needs}
 use Rattle.construct.proofs.three_points.bearing.Statement.{statement}
 use Rattle.construct.proofs.three_points.bearing.Tie as tie
 
-atan2-requires : tie.Need-atan2-requires
-atan2-requires c κs = search needs
-
 returns : tie.Need-returns
 unfolding bearing
 returns c = rw (← c .atan2 .ensures)
 
 pub bearing-spec : {M : Type 1} → statement M
-bearing-spec = tie.close (tie.spec atan2-requires returns)
+bearing-spec =
+    tie.close (tie.spec (λ c κs. search needs) returns)

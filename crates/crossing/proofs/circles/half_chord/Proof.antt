@@ -4,9 +4,6 @@ use borrow.Author.Needs.{needs}
 use Rattle.crossing.proofs.circles.half_chord.Statement.{statement}
 use Rattle.crossing.proofs.circles.half_chord.Tie as tie
 
-sqrt-requires : tie.Need-sqrt-requires
-sqrt-requires c κs = search needs
-
 returns : tie.Need-returns
 unfolding halfChord
 returns c = rw (c .before .if1 .taken, ← c .sqrt .ensures)
@@ -16,4 +13,5 @@ unfolding halfChord
 returns-2 c = rw (c .if1 .left)
 
 pub half-chord-spec : {M : Type 1} → statement M
-half-chord-spec = tie.close (tie.spec sqrt-requires returns returns-2)
+half-chord-spec =
+    tie.close (tie.spec (λ c κs. search needs) returns returns-2)

@@ -28,54 +28,34 @@ abbrev μ-loop : tie.MeasureT-loop
 loop-holds : tie.Need-loop-holds Inv-loop μ-loop
 loop-holds c = (omega arith, omega arith, refl, λ hs lent e w. record { place = refl; out = refl })
 
-hit-at-requires : tie.Need-hit-at-requires Inv-loop μ-loop
-hit-at-requires c κs = omega arith
-
-add-hit-line : tie.Need-add-hit-line Inv-loop μ-loop
-add-hit-line c = omega arith
-
-hit-line-requires : tie.Need-hit-line-requires Inv-loop μ-loop
-hit-line-requires c κs = omega arith
-
-add-i : tie.Need-add-i Inv-loop μ-loop
-add-i c = omega arith
-
-loop-less : tie.Need-loop-less Inv-loop μ-loop
-loop-less c = omega arith
-
 loop-again : tie.Need-loop-again Inv-loop μ-loop
 loop-again c =
-    let l = c .before .before .before .before .before .before .loop in
-    let z = c .before .before .before .before .before .before .before .before .before .args in
-    let p = rw (c .before .before .before .before .hit-at .ensures) at (c .before .before .hit-line .ensures) in
+    let hit-line = c .before .before in
+    let hit-at = hit-line .before .before in
+    let loop = hit-at .before .before in
+    let start = loop .before .before .before in
+    let l = loop .loop in
+    let z = start .args in
+    let p = rw (hit-at .hit-at .ensures) at (hit-line .hit-line .ensures) in
     let next = within p (hit-length _ _ _) in (
       omega arith,
       omega arith,
       omega arith,
-      λ hs lent e w. left-step {a = hitLine (z .line) (l .i + 1) (hitAt (written hs lent) (l .i))} (omega arith) (rw (lines-step (z .line) hs lent (l .i) (omega arith)) at (l .inv .3 hs lent e w)) (rw w at p),
+      λ hs lent e w. left-step {a = hitLine (z .line) (l .i + 1) (hitAt (written hs lent) (l .i))} (omega arith)
+          (rw (lines-step (z .line) hs lent (l .i) (omega arith)) at (l .inv .3 hs lent e w)) (rw w at p),
     )
-
-same-length : tie.Need-same-length Inv-loop μ-loop
-same-length c = omega arith
 
 returns : tie.Need-returns Inv-loop μ-loop
 returns c =
-    let l = c .before .loop in
-    let z = c .before .before .before .before .args in
+    let loop = c .before in
+    let start = loop .before .before .before in
+    let l = loop .loop in
+    let z = start .args in
     λ hs lent e w. left-none (rw (lines-past (z .line) (l .i + 1) hs (l .i) (omega arith)) at (l .inv .3 hs lent e w))
 
 pub put-hits-spec : {M : Type 1} → statement M
 put-hits-spec =
     tie.close
     (tie.spec
-    Inv-loop
-    μ-loop
-    loop-holds
-    hit-at-requires
-    add-hit-line
-    hit-line-requires
-    add-i
-    loop-less
-    loop-again
-    same-length
-    returns)
+    Inv-loop μ-loop loop-holds (λ c κs. omega arith) (λ c. omega arith) (λ c κs. omega arith) (λ c. omega arith)
+    (λ c. omega arith) loop-again (λ c. omega arith) returns)

@@ -1,3 +1,4 @@
+-- `desk::records::record_at` meets its contract. Assumes nothing.
 use native.Mathlib.Omega.{arith}
 use borrow.Author.Needs.{needs}
 use Rattle.desk.proofs.Tables.{held-within}
@@ -13,8 +14,6 @@ mul-place c = omega (arith, held-within _ _ (c .pre))
 element-copy-out-place : tie.Need-element-copy-out-place
 element-copy-out-place c = omega (arith, held-within _ _ (c .pre))
 
-returns : tie.Need-returns
-returns c = search needs
-
 pub record-at-spec : {M : Type 1} → statement M
-record-at-spec = tie.close (tie.spec sub-at mul-place element-copy-out-place returns)
+record-at-spec =
+    tie.close (tie.spec sub-at mul-place element-copy-out-place (λ c. search needs))

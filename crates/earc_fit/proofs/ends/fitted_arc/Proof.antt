@@ -4,36 +4,26 @@ use borrow.Author.Needs.{needs}
 use Rattle.earc_fit.proofs.ends.fitted_arc.Statement.{statement}
 use Rattle.earc_fit.proofs.ends.fitted_arc.Tie as tie
 
-sqrt-requires : tie.Need-sqrt-requires
-sqrt-requires c κs = search needs
-
-sqrt-requires-2 : tie.Need-sqrt-requires-2
-sqrt-requires-2 c κs = search needs
-
-sin-cos-requires : tie.Need-sin-cos-requires
-sin-cos-requires c κs = search needs
-
-parametric-requires : tie.Need-parametric-requires
-parametric-requires c κs = search needs
-
-parametric-requires-2 : tie.Need-parametric-requires-2
-parametric-requires-2 c κs = search needs
-
-agrees-requires : tie.Need-agrees-requires
-agrees-requires c κs = search needs
-
 returns : tie.Need-returns
 unfolding fittedArc
-returns c = rw (← c .before .before .before .before .before .sqrt .ensures, ← c .before .before .before .before .sqrt2 .ensures, ← c .before .before .before .sin-cos .ensures .0, ← c .before .before .before .sin-cos .ensures .1, ← c .before .before .parametric .ensures, ← c .before .parametric2 .ensures, ← c .agrees .ensures)
+returns c =
+    let parametric = c .before .before in
+    let sin-cos = parametric .before in
+    let sqrt2 = sin-cos .before in
+    let sqrt = sqrt2 .before in
+    rw (
+      ← sqrt .sqrt .ensures,
+      ← sqrt2 .sqrt2 .ensures,
+      ← sin-cos .sin-cos .ensures .0,
+      ← sin-cos .sin-cos .ensures .1,
+      ← parametric .parametric .ensures,
+      ← c .before .parametric2 .ensures,
+      ← c .agrees .ensures,
+    )
 
 pub fitted-arc-spec : {M : Type 1} → statement M
 fitted-arc-spec =
     tie.close
     (tie.spec
-    sqrt-requires
-    sqrt-requires-2
-    sin-cos-requires
-    parametric-requires
-    parametric-requires-2
-    agrees-requires
-    returns)
+    (λ c κs. search needs) (λ c κs. search needs) (λ c κs. search needs) (λ c κs. search needs) (λ c κs. search needs)
+    (λ c κs. search needs) returns)

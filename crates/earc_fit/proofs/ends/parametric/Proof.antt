@@ -4,12 +4,10 @@ use borrow.Author.Needs.{needs}
 use Rattle.earc_fit.proofs.ends.parametric.Statement.{statement}
 use Rattle.earc_fit.proofs.ends.parametric.Tie as tie
 
-atan2-requires : tie.Need-atan2-requires
-atan2-requires c κs = search needs
-
 returns : tie.Need-returns
 unfolding parametric
 returns c = rw (← c .atan2 .ensures)
 
 pub parametric-spec : {M : Type 1} → statement M
-parametric-spec = tie.close (tie.spec atan2-requires returns)
+parametric-spec =
+    tie.close (tie.spec (λ c κs. search needs) returns)

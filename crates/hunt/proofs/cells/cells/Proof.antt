@@ -23,12 +23,6 @@ mul-n c =
     let h : 2 ^ c .before .loop .counter ≤ 2 ^ 7 = pow-mono l in
     omega arith
 
-add-counter : tie.Need-add-counter Inv-loop μ-loop
-add-counter c = omega arith
-
-loop-less : tie.Need-loop-less Inv-loop μ-loop
-loop-less c = omega arith
-
 loop-again : tie.Need-loop-again Inv-loop μ-loop
 loop-again c = (omega arith, rw (add-one, pow-suc) (omega arith))
 
@@ -37,4 +31,4 @@ returns c = let done : c .before .loop .counter ≡ c .before .before .args .dep
 
 pub cells-spec : {M : Type 1} → statement M
 cells-spec =
-    tie.close (tie.spec Inv-loop μ-loop loop-holds mul-n add-counter loop-less loop-again returns)
+    tie.close (tie.spec Inv-loop μ-loop loop-holds mul-n (λ c. omega arith) (λ c. omega arith) loop-again returns)

@@ -11,12 +11,10 @@ returns : tie.Need-returns
 unfolding sample
 returns c = rw (c .if1 .taken)
 
-int-to-float-result : tie.Need-int-to-float-result
-int-to-float-result c = search needs
-
 returns-2 : tie.Need-returns-2
 unfolding sample
 returns-2 c = sym (cond-above (c .before .before .args .i) (c .before .before .args .start) _ (omega arith))
 
 pub sample-spec : {M : Type 1} → statement M
-sample-spec = tie.close (tie.spec returns int-to-float-result returns-2)
+sample-spec =
+    tie.close (tie.spec returns (λ c. search needs) returns-2)

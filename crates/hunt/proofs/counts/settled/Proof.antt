@@ -4,33 +4,6 @@ use borrow.Author.Needs.{needs}
 use Rattle.hunt.proofs.counts.settled.Statement.{statement}
 use Rattle.hunt.proofs.counts.settled.Tie as tie
 
-add-r : tie.Need-add-r
-add-r c = search needs
-
-enum-told : tie.Need-enum-told
-enum-told c = search needs
-
-add-r-2 : tie.Need-add-r-2
-add-r-2 c = search needs
-
-enum-told-2 : tie.Need-enum-told-2
-enum-told-2 c = search needs
-
-add-r-3 : tie.Need-add-r-3
-add-r-3 c = search needs
-
-enum-told-3 : tie.Need-enum-told-3
-enum-told-3 c = search needs
-
-add-r-4 : tie.Need-add-r-4
-add-r-4 c = search needs
-
-enum-told-4 : tie.Need-enum-told-4
-enum-told-4 c = search needs
-
-add-r-5 : tie.Need-add-r-5
-add-r-5 c = search needs
-
 returns : tie.Need-returns
 returns c = λ o e. rw (c .before .enum-told .given .1, e)
 
@@ -47,16 +20,6 @@ pub settled-spec : {M : Type 1} → statement M
 settled-spec =
     tie.close
     (tie.spec
-    add-r
-    enum-told
-    add-r-2
-    enum-told-2
-    add-r-3
-    enum-told-3
-    add-r-4
-    enum-told-4
-    add-r-5
-    returns
-    returns-2
-    returns-3
+    (λ c. search needs) (λ c. search needs) (λ c. search needs) (λ c. search needs) (λ c. search needs)
+    (λ c. search needs) (λ c. search needs) (λ c. search needs) (λ c. search needs) returns returns-2 returns-3
     returns-4)

@@ -6,26 +6,12 @@ use borrow.Author.Needs.{needs}
 use Rattle.hunt.proofs.settling.keep.Statement.{statement}
 use Rattle.hunt.proofs.settling.keep.Tie as tie
 
-enum-known-d : tie.Need-enum-known-d
-enum-known-d c = search needs
-
-put-requires : tie.Need-put-requires
-put-requires c κs = search needs
-
-enum-told : tie.Need-enum-told
-enum-told c = search needs
-
-enum-told-2 : tie.Need-enum-told-2
-enum-told-2 c = search needs
-
-enum-told-3 : tie.Need-enum-told-3
-enum-told-3 c = search needs
-
-same-length : tie.Need-same-length
-same-length c = search needs
-
 returns : tie.Need-returns
-returns c = λ hs lent e w. rw (c .before .before .before .before .before .d .given .1, c .before .before .put .ensures, w, e) (put-written hs _ lent (lent-fits hs lent (rw (← w, ← e) (c .before .before .before .before .before .before .before .before .pre))))
+returns c =
+    let put = c .before .before in
+    let d = put .before .before .before in
+    let start = d .before .before .before in
+    λ hs lent e w. rw (d .d .given .1, put .put .ensures, w, e) (put-written hs _ lent (lent-fits hs lent (rw (← w, ← e) (start .pre))))
 
 returns-2 : tie.Need-returns-2
 returns-2 c = λ hs lent e w. rw (c .enum-told .given .1, append-nil) w
@@ -40,13 +26,5 @@ pub keep-spec : {M : Type 1} → statement M
 keep-spec =
     tie.close
     (tie.spec
-    enum-known-d
-    put-requires
-    enum-told
-    enum-told-2
-    enum-told-3
-    same-length
-    returns
-    returns-2
-    returns-3
-    returns-4)
+    (λ c. search needs) (λ c κs. search needs) (λ c. search needs) (λ c. search needs) (λ c. search needs)
+    (λ c. search needs) returns returns-2 returns-3 returns-4)

@@ -12,29 +12,23 @@ use borrow.Author.Needs.{needs}
 use Rattle.hunt.proofs.settling.settle.Statement.{statement}
 use Rattle.hunt.proofs.settling.settle.Tie as tie
 
-fate-requires : tie.Need-fate-requires
-fate-requires c κs = search needs
-
-keep-requires : tie.Need-keep-requires
-keep-requires c κs = search needs
-
-settled-requires : tie.Need-settled-requires
-settled-requires c κs = search needs
-
-same-length : tie.Need-same-length
-same-length c = search needs
-
 returns : tie.Need-returns
 returns c =
-    let z = c .before .before .before .before .before .before .before .before .args in
+    let keep = c .before .before .before in
+    let fate = keep .before .before in
+    let start = fate .before .before .before in
+    let z = start .args in
     λ o lent e w.
     let n : z .t .hits ≡ length (o .hits) = ap (λ (x : Tally). x .hits) e in
-    let d = c .before .before .before .before .before .fate .ensures (o .hits) lent n w in (
+    let d = fate .fate .ensures (o .hits) lent n w in (
       c .settled .ensures o e ∙ ap (λ (x : Fate). tally (settle x o)) d,
-      c .before .before .before .keep .ensures (o .hits) lent n w
-          ∙ ap (λ (hs : List CurveHit). written hs lent) (settle-hits (c .before .before .before .before .before .fate .result) o)
+      keep .keep .ensures (o .hits) lent n w
+          ∙ ap (λ (hs : List CurveHit). written hs lent) (settle-hits (fate .fate .result) o)
           ∙ ap (λ (x : Fate). written (settle x o .hits) lent) d,
     )
 
 pub settle-spec : {M : Type 1} → statement M
-settle-spec = tie.close (tie.spec fate-requires keep-requires settled-requires same-length returns)
+settle-spec =
+    tie.close
+    (tie.spec
+    (λ c κs. search needs) (λ c κs. search needs) (λ c κs. search needs) (λ c. search needs) returns)

@@ -5,18 +5,6 @@ use borrow.Author.Needs.{needs}
 use Rattle.lent.proofs.counts.count_found.Statement.{statement}
 use Rattle.lent.proofs.counts.count_found.Tie as tie
 
-enum-known-f : tie.Need-enum-known-f
-enum-known-f c = search needs
-
-slice-write-counts : tie.Need-slice-write-counts
-slice-write-counts c = search needs
-
-enum-told : tie.Need-enum-told
-enum-told c = search needs
-
-same-length : tie.Need-same-length
-same-length c = search needs
-
 returns : tie.Need-returns
 unfolding placed
 returns c = rw (c .before .f .given .1) refl
@@ -27,4 +15,6 @@ returns-2 c = rw (c .enum-told .given .1) refl
 
 pub count-found-spec : {M : Type 1} → statement M
 count-found-spec =
-    tie.close (tie.spec enum-known-f slice-write-counts enum-told same-length returns returns-2)
+    tie.close
+    (tie.spec
+    (λ c. search needs) (λ c. search needs) (λ c. search needs) (λ c. search needs) returns returns-2)

@@ -14,11 +14,12 @@ returns c =
 place-requires : tie.Need-place-requires
 place-requires c κs = c .before .if1 .left
 
-same-length : tie.Need-same-length
-same-length c = search needs
-
 returns-2 : tie.Need-returns-2
-returns-2 c = record { refusal = rw (le-ltb _ _ (c .before .before .before .before .if1 .left)) refl; values = c .before .before .place .ensures }
+returns-2 c =
+    let place = c .before .before in
+    let test = place .before .before in
+    record { refusal = rw (le-ltb _ _ (test .if1 .left)) refl; values = place .place .ensures }
 
 pub give-spec : {M : Type 1} → statement M
-give-spec = tie.close (tie.spec returns place-requires same-length returns-2)
+give-spec =
+    tie.close (tie.spec returns place-requires (λ c. search needs) returns-2)

@@ -4,40 +4,26 @@ use Rattle.lent.specs.Lent.{lentArc}
 use Rattle.lent.proofs.numbers.arc.Statement.{statement}
 use Rattle.lent.proofs.numbers.arc.Tie as tie
 
-number-requires : tie.Need-number-requires
-number-requires c κs = tt
-
-number-requires-2 : tie.Need-number-requires-2
-number-requires-2 c κs = tt
-
-number-requires-3 : tie.Need-number-requires-3
-number-requires-3 c κs = tt
-
-number-requires-4 : tie.Need-number-requires-4
-number-requires-4 c κs = tt
-
-number-requires-5 : tie.Need-number-requires-5
-number-requires-5 c κs = tt
-
-number-requires-6 : tie.Need-number-requires-6
-number-requires-6 c κs = tt
-
-number-requires-7 : tie.Need-number-requires-7
-number-requires-7 c κs = tt
-
 returns : tie.Need-returns
 unfolding lentArc
-returns c = rw (← c .number7 .ensures, ← c .before .number6 .ensures, ← c .before .before .number5 .ensures, ← c .before .before .before .number4 .ensures, ← c .before .before .before .before .number3 .ensures, ← c .before .before .before .before .before .number2 .ensures, ← c .before .before .before .before .before .before .number .ensures) refl
+returns c =
+    let number5 = c .before .before in
+    let number4 = number5 .before in
+    let number3 = number4 .before in
+    let number2 = number3 .before in
+    let number = number2 .before in
+    rw (
+      ← c .number7 .ensures,
+      ← c .before .number6 .ensures,
+      ← number5 .number5 .ensures,
+      ← number4 .number4 .ensures,
+      ← number3 .number3 .ensures,
+      ← number2 .number2 .ensures,
+      ← number .number .ensures,
+    ) refl
 
 pub arc-spec : {M : Type 1} → statement M
 arc-spec =
     tie.close
     (tie.spec
-    number-requires
-    number-requires-2
-    number-requires-3
-    number-requires-4
-    number-requires-5
-    number-requires-6
-    number-requires-7
-    returns)
+    (λ c κs. tt) (λ c κs. tt) (λ c κs. tt) (λ c κs. tt) (λ c κs. tt) (λ c κs. tt) (λ c κs. tt) returns)

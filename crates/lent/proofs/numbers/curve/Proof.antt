@@ -6,26 +6,15 @@ use borrow.Author.Tests.{ne-eqb}
 use Rattle.lent.proofs.numbers.curve.Statement.{statement}
 use Rattle.lent.proofs.numbers.curve.Tie as tie
 
-number-requires : tie.Need-number-requires
-number-requires c κs = tt
-
-number-requires-2 : tie.Need-number-requires-2
-number-requires-2 c κs = tt
-
-number-requires-3 : tie.Need-number-requires-3
-number-requires-3 c κs = tt
-
-number-requires-4 : tie.Need-number-requires-4
-number-requires-4 c κs = tt
-
 returns : tie.Need-returns
 unfolding lentCurve
 returns c =
-    let segment : c .before .before .before .before .before .before .args .marks / 8 % 2 ≡ 1 = c .before .before .before .before .if1 .taken in
-    rw (segment, ← c .number4 .ensures, ← c .before .number3 .ensures, ← c .before .before .number2 .ensures, ← c .before .before .before .number .ensures) refl
-
-arc-requires : tie.Need-arc-requires
-arc-requires c κs = tt
+    let number2 = c .before .before in
+    let number = number2 .before in
+    let test = number .before in
+    let start = test .before .before in
+    let segment : start .args .marks / 8 % 2 ≡ 1 = test .if1 .taken in
+    rw (segment, ← c .number4 .ensures, ← c .before .number3 .ensures, ← number2 .number2 .ensures, ← number .number .ensures) refl
 
 returns-2 : tie.Need-returns-2
 unfolding lentCurve
@@ -33,12 +22,4 @@ returns-2 c = rw (ne-eqb (c .before .before .before .args .marks / 8 % 2) 1 (c .
 
 pub curve-spec : {M : Type 1} → statement M
 curve-spec =
-    tie.close
-    (tie.spec
-    number-requires
-    number-requires-2
-    number-requires-3
-    number-requires-4
-    returns
-    arc-requires
-    returns-2)
+    tie.close (tie.spec (λ c κs. tt) (λ c κs. tt) (λ c κs. tt) (λ c κs. tt) returns (λ c κs. tt) returns-2)

@@ -3,11 +3,9 @@ use borrow.Author.Needs.{needs}
 use Rattle.line_fields.proofs.bytes.tab.Statement.{statement}
 use Rattle.line_fields.proofs.bytes.tab.Tie as tie
 
-byte-requires : tie.Need-byte-requires
-byte-requires c κs = search needs
-
 returns : tie.Need-returns
 returns c = rw (← c .byte .ensures)
 
 pub tab-spec : {M : Type 1} → statement M
-tab-spec = tie.close (tie.spec byte-requires returns)
+tab-spec =
+    tie.close (tie.spec (λ c κs. search needs) returns)

@@ -20,40 +20,37 @@ loop-holds c =
     let n : c .before .args .at + 0 ≡ c .before .args .at = omega arith in
     (omega arith, sixteens-none, rw n)
 
-add-byte : tie.Need-add-byte Inv-loop μ-loop
-add-byte c = omega arith
-
-byte-requires : tie.Need-byte-requires Inv-loop μ-loop
-byte-requires c κs = tt
-
-hex-value-requires : tie.Need-hex-value-requires Inv-loop μ-loop
-hex-value-requires c κs = tt
-
 returns : tie.Need-returns Inv-loop μ-loop
 returns c =
-    let l = c .before .before .before .before .loop in
-    let z = c .before .before .before .before .before .before .args in
-    let e : 16 ≤ hexValue (getD (z .line .now) (z .at + l .i) 0) = rw (← c .before .before .byte .ensures, ← c .before .hex-value .ensures) (c .if1 .taken) in
+    let byte = c .before .before in
+    let loop = byte .before .before in
+    let start = loop .before .before in
+    let l = loop .loop in
+    let z = start .args in
+    let e : 16 ≤ hexValue (getD (z .line .now) (z .at + l .i) 0) = rw (← byte .byte .ensures, ← c .before .hex-value .ensures) (c .if1 .taken) in
     sym (l .inv .2 ∙ bits-stop (z .line .now) (z .at) (l .i) (l .v) (omega arith) e)
 
 mul-v : tie.Need-mul-v Inv-loop μ-loop
-mul-v c = omega (arith, sixteens-more (c .before .before .before .before .loop .i), sixteens-fit (c .before .before .before .before .loop .i + 1) (omega arith))
+mul-v c =
+    let byte = c .before .before in
+    let loop = byte .before .before in
+    omega (arith, sixteens-more (loop .loop .i), sixteens-fit (loop .loop .i + 1) (omega arith))
 
 add-v : tie.Need-add-v Inv-loop μ-loop
-add-v c = omega (arith, sixteens-more (c .before .before .before .before .loop .i), sixteens-fit (c .before .before .before .before .loop .i + 1) (omega arith))
-
-add-i : tie.Need-add-i Inv-loop μ-loop
-add-i c = omega arith
-
-loop-less : tie.Need-loop-less Inv-loop μ-loop
-loop-less c = omega arith
+add-v c =
+    let byte = c .before .before in
+    let loop = byte .before .before in
+    omega (arith, sixteens-more (loop .loop .i), sixteens-fit (loop .loop .i + 1) (omega arith))
 
 loop-again : tie.Need-loop-again Inv-loop μ-loop
 loop-again c =
-    let l = c .before .before .before .before .loop in
-    let z = c .before .before .before .before .before .before .args in
-    let e : hexValue (getD (z .line .now) (z .at + l .i) 0) < 16 = rw (← c .before .before .byte .ensures, ← c .before .hex-value .ensures) (c .if1 .left) in
-    (omega arith, omega (arith, sixteens-more (l .i)), l .inv .2 ∙ rw (← c .before .before .byte .ensures, ← c .before .hex-value .ensures) at (bits-more (z .line .now) (z .at) (l .i) (l .v) (omega arith) e))
+    let byte = c .before .before in
+    let loop = byte .before .before in
+    let start = loop .before .before in
+    let l = loop .loop in
+    let z = start .args in
+    let e : hexValue (getD (z .line .now) (z .at + l .i) 0) < 16 = rw (← byte .byte .ensures, ← c .before .hex-value .ensures) (c .if1 .left) in
+    (omega arith, omega (arith, sixteens-more (l .i)), l .inv .2 ∙ rw (← byte .byte .ensures, ← c .before .hex-value .ensures) at (bits-more (z .line .now) (z .at) (l .i) (l .v) (omega arith) e))
 
 returns-2 : tie.Need-returns-2 Inv-loop μ-loop
 returns-2 c =
@@ -65,16 +62,5 @@ pub bits-spec : {M : Type 1} → statement M
 bits-spec =
     tie.close
     (tie.spec
-    Inv-loop
-    μ-loop
-    loop-holds
-    add-byte
-    byte-requires
-    hex-value-requires
-    returns
-    mul-v
-    add-v
-    add-i
-    loop-less
-    loop-again
-    returns-2)
+    Inv-loop μ-loop loop-holds (λ c. omega arith) (λ c κs. tt) (λ c κs. tt) returns mul-v add-v (λ c. omega arith)
+    (λ c. omega arith) loop-again returns-2)

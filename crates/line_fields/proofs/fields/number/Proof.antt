@@ -6,15 +6,6 @@ use borrow.Author.Needs.{needs}
 use Rattle.line_fields.proofs.fields.number.Statement.{statement}
 use Rattle.line_fields.proofs.fields.number.Tie as tie
 
-tab-requires : tie.Need-tab-requires
-tab-requires c κs = search needs
-
-add-bits : tie.Need-add-bits
-add-bits c = search needs
-
-bits-requires : tie.Need-bits-requires
-bits-requires c κs = search needs
-
 returns : tie.Need-returns
 returns c = c .bits .ensures ∙ sym (number-tab _ _ (eqb-true _ 9 (sym (c .before .before .tab .ensures) ∙ c .before .if1 .taken)))
 
@@ -22,4 +13,5 @@ returns-2 : tie.Need-returns-2
 returns-2 c = sym (number-else _ _ (eqb-false _ 9 (sym (c .before .tab .ensures) ∙ c .if1 .left)))
 
 pub number-spec : {M : Type 1} → statement M
-number-spec = tie.close (tie.spec tab-requires add-bits bits-requires returns returns-2)
+number-spec =
+    tie.close (tie.spec (λ c κs. search needs) (λ c. search needs) (λ c κs. search needs) returns returns-2)

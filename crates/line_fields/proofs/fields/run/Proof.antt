@@ -18,33 +18,16 @@ abbrev μ-loop : tie.MeasureT-loop
 loop-holds : tie.Need-loop-holds Inv-loop μ-loop
 loop-holds c = (omega arith, run-from _ _)
 
-byte-requires : tie.Need-byte-requires Inv-loop μ-loop
-byte-requires c κs = tt
-
-digit-value-requires : tie.Need-digit-value-requires Inv-loop μ-loop
-digit-value-requires c κs = tt
-
-mul-capped : tie.Need-mul-capped Inv-loop μ-loop
-mul-capped c = omega arith
-
-add-capped : tie.Need-add-capped Inv-loop μ-loop
-add-capped c = omega arith
-
-capped-requires : tie.Need-capped-requires Inv-loop μ-loop
-capped-requires c κs = tt
-
-add-i : tie.Need-add-i Inv-loop μ-loop
-add-i c = omega arith
-
-loop-less : tie.Need-loop-less Inv-loop μ-loop
-loop-less c = omega arith
-
 loop-again : tie.Need-loop-again Inv-loop μ-loop
 loop-again c =
-    let l = c .before .before .before .before .before .loop in
-    let z = c .before .before .before .before .before .before .before .args in
-    let e : digitValue (getD (z .line .now) (l .i) 0) < 10 = rw (← c .before .before .before .byte .ensures, ← c .before .before .digit-value .ensures) (c .before .if1 .left) in
-    (omega arith, l .inv .1 ∙ rw (← c .before .before .before .byte .ensures, ← c .before .before .digit-value .ensures, ← c .capped .ensures) at (run-more (z .line .now) (l .v) (l .i) e))
+    let digit-value = c .before .before in
+    let byte = digit-value .before in
+    let loop = byte .before .before in
+    let start = loop .before .before in
+    let l = loop .loop in
+    let z = start .args in
+    let e : digitValue (getD (z .line .now) (l .i) 0) < 10 = rw (← byte .byte .ensures, ← digit-value .digit-value .ensures) (c .before .if1 .left) in
+    (omega arith, l .inv .1 ∙ rw (← byte .byte .ensures, ← digit-value .digit-value .ensures, ← c .capped .ensures) at (run-more (z .line .now) (l .v) (l .i) e))
 
 returns : tie.Need-returns Inv-loop μ-loop
 returns c =
@@ -54,25 +37,17 @@ returns c =
 
 returns-2 : tie.Need-returns-2 Inv-loop μ-loop
 returns-2 c =
-    let l = c .before .before .before .before .loop in
-    let z = c .before .before .before .before .before .before .args in
-    let e : 10 ≤ digitValue (getD (z .line .now) (l .i) 0) = rw (← c .before .before .byte .ensures, ← c .before .digit-value .ensures) (c .if1 .taken) in
+    let byte = c .before .before in
+    let loop = byte .before .before in
+    let start = loop .before .before in
+    let l = loop .loop in
+    let z = start .args in
+    let e : 10 ≤ digitValue (getD (z .line .now) (l .i) 0) = rw (← byte .byte .ensures, ← c .before .digit-value .ensures) (c .if1 .taken) in
     sym (l .inv .1 ∙ run-stop (z .line .now) (l .v) (l .i) e (l .inv .0))
 
 pub run-spec : {M : Type 1} → statement M
 run-spec =
     tie.close
     (tie.spec
-    Inv-loop
-    μ-loop
-    loop-holds
-    byte-requires
-    digit-value-requires
-    mul-capped
-    add-capped
-    capped-requires
-    add-i
-    loop-less
-    loop-again
-    returns
-    returns-2)
+    Inv-loop μ-loop loop-holds (λ c κs. tt) (λ c κs. tt) (λ c. omega arith) (λ c. omega arith) (λ c κs. tt)
+    (λ c. omega arith) (λ c. omega arith) loop-again returns returns-2)

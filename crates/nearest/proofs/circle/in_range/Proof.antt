@@ -4,21 +4,9 @@ use borrow.Author.Needs.{needs}
 use Rattle.nearest.proofs.circle.in_range.Statement.{statement}
 use Rattle.nearest.proofs.circle.in_range.Tie as tie
 
-norm-tau-requires : tie.Need-norm-tau-requires
-norm-tau-requires c κs = search needs
-
-norm-tau-requires-2 : tie.Need-norm-tau-requires-2
-norm-tau-requires-2 c κs = search needs
-
 returns : tie.Need-returns
 unfolding inRange
 returns c = rw (c .before .before .if1 .taken, ← c .before .norm-tau .ensures, ← c .norm-tau2 .ensures)
-
-norm-tau-requires-3 : tie.Need-norm-tau-requires-3
-norm-tau-requires-3 c κs = search needs
-
-norm-tau-requires-4 : tie.Need-norm-tau-requires-4
-norm-tau-requires-4 c κs = search needs
 
 returns-2 : tie.Need-returns-2
 unfolding inRange
@@ -28,9 +16,4 @@ pub in-range-spec : {M : Type 1} → statement M
 in-range-spec =
     tie.close
     (tie.spec
-    norm-tau-requires
-    norm-tau-requires-2
-    returns
-    norm-tau-requires-3
-    norm-tau-requires-4
-    returns-2)
+    (λ c κs. search needs) (λ c κs. search needs) returns (λ c κs. search needs) (λ c κs. search needs) returns-2)

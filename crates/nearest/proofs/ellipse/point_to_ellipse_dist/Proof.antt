@@ -4,52 +4,32 @@ use borrow.Author.Needs.{needs}
 use Rattle.nearest.proofs.ellipse.point_to_ellipse_dist.Statement.{statement}
 use Rattle.nearest.proofs.ellipse.point_to_ellipse_dist.Tie as tie
 
-span-requires : tie.Need-span-requires
-span-requires c κs = search needs
-
-min-requires : tie.Need-min-requires
-min-requires c κs = search needs
-
-max-requires : tie.Need-max-requires
-max-requires c κs = search needs
-
-sin-cos-requires : tie.Need-sin-cos-requires
-sin-cos-requires c κs = search needs
-
-best-of-requires : tie.Need-best-of-requires
-best-of-requires c κs = search needs
-
-newton-requires : tie.Need-newton-requires
-newton-requires c κs = search needs
-
-point-requires : tie.Need-point-requires
-point-requires c κs = search needs
-
-point-requires-2 : tie.Need-point-requires-2
-point-requires-2 c κs = search needs
-
-point-requires-3 : tie.Need-point-requires-3
-point-requires-3 c κs = search needs
-
-nearest-of-requires : tie.Need-nearest-of-requires
-nearest-of-requires c κs = search needs
-
 returns : tie.Need-returns
 unfolding pointToEllipseDist
-returns c = rw (← c .before .before .before .before .before .before .before .before .before .span .ensures, ← c .before .before .before .before .before .before .before .before .min .ensures, ← c .before .before .before .before .before .before .before .max .ensures, ← c .before .before .before .before .before .best-of .ensures, ← c .before .before .before .before .newton .ensures, ← c .before .before .before .point .ensures, ← c .before .before .point2 .ensures, ← c .before .point3 .ensures, ← c .nearest-of .ensures)
+returns c =
+    let point2 = c .before .before in
+    let point = point2 .before in
+    let newton = point .before in
+    let best-of = newton .before in
+    let max = best-of .before .before in
+    let min = max .before in
+    let span = min .before in
+    rw (
+      ← span .span .ensures,
+      ← min .min .ensures,
+      ← max .max .ensures,
+      ← best-of .best-of .ensures,
+      ← newton .newton .ensures,
+      ← point .point .ensures,
+      ← point2 .point2 .ensures,
+      ← c .before .point3 .ensures,
+      ← c .nearest-of .ensures,
+    )
 
 pub point-to-ellipse-dist-spec : {M : Type 1} → statement M
 point-to-ellipse-dist-spec =
     tie.close
     (tie.spec
-    span-requires
-    min-requires
-    max-requires
-    sin-cos-requires
-    best-of-requires
-    newton-requires
-    point-requires
-    point-requires-2
-    point-requires-3
-    nearest-of-requires
+    (λ c κs. search needs) (λ c κs. search needs) (λ c κs. search needs) (λ c κs. search needs) (λ c κs. search needs)
+    (λ c κs. search needs) (λ c κs. search needs) (λ c κs. search needs) (λ c κs. search needs) (λ c κs. search needs)
     returns)

@@ -4,12 +4,15 @@ use borrow.Author.Needs.{needs}
 use Rattle.nearest.proofs.newton.bend.Statement.{statement}
 use Rattle.nearest.proofs.newton.bend.Tie as tie
 
-squared-dist-requires : tie.Need-squared-dist-requires
-squared-dist-requires c κs = search needs
-
 returns : tie.Need-returns
 unfolding bend
-returns c = rw (← c .before .before .before .before .before .before .before .before .before .before .squared-dist .ensures)
+returns c =
+    let struct-known7 = c .before .before .before in
+    let struct-known4 = struct-known7 .before .before .before in
+    let struct-known2 = struct-known4 .before .before in
+    let squared-dist = struct-known2 .before .before in
+    rw (← squared-dist .squared-dist .ensures)
 
 pub bend-spec : {M : Type 1} → statement M
-bend-spec = tie.close (tie.spec squared-dist-requires returns)
+bend-spec =
+    tie.close (tie.spec (λ c κs. search needs) returns)

@@ -16,27 +16,16 @@ abbrev μ-loop : tie.MeasureT-loop
 loop-holds : tie.Need-loop-holds Inv-loop μ-loop
 loop-holds c = (omega arith, refl)
 
-slopes-at-requires : tie.Need-slopes-at-requires Inv-loop μ-loop
-slopes-at-requires c κs = search needs
-
-abs-requires : tie.Need-abs-requires Inv-loop μ-loop
-abs-requires c κs = search needs
-
-clamp-requires : tie.Need-clamp-requires Inv-loop μ-loop
-clamp-requires c κs = search needs
-
-add-counter : tie.Need-add-counter Inv-loop μ-loop
-add-counter c = omega arith
-
-loop-less : tie.Need-loop-less Inv-loop μ-loop
-loop-less c = omega arith
-
 loop-again : tie.Need-loop-again Inv-loop μ-loop
 unfolding newton
 loop-again c =
-    let l = c .before .before .before .before .before .before .loop in
+    let test = c .before .before in
+    let abs = test .before in
+    let slopes-at = abs .before in
+    let loop = slopes-at .before .before in
+    let l = loop .loop in
     let more : 8 - l .counter ≡ suc (8 - (l .counter + 1)) = omega arith in
-    (omega arith, l .inv .1 ∙ rw (more, ← c .before .before .before .before .slopes-at .ensures, ← c .before .before .before .abs .ensures, c .before .before .if1 .left, ← c .clamp .ensures))
+    (omega arith, l .inv .1 ∙ rw (more, ← slopes-at .slopes-at .ensures, ← abs .abs .ensures, test .if1 .left, ← c .clamp .ensures))
 
 returns : tie.Need-returns Inv-loop μ-loop
 unfolding newton
@@ -48,22 +37,15 @@ returns c =
 returns-2 : tie.Need-returns-2 Inv-loop μ-loop
 unfolding newton
 returns-2 c =
-    let l = c .before .before .before .before .loop in
+    let slopes-at = c .before .before in
+    let loop = slopes-at .before .before in
+    let l = loop .loop in
     let more : 8 - l .counter ≡ suc (8 - (l .counter + 1)) = omega arith in
-    sym (l .inv .1 ∙ rw (more, ← c .before .before .slopes-at .ensures, ← c .before .abs .ensures, c .if1 .taken))
+    sym (l .inv .1 ∙ rw (more, ← slopes-at .slopes-at .ensures, ← c .before .abs .ensures, c .if1 .taken))
 
 pub newton-spec : {M : Type 1} → statement M
 newton-spec =
     tie.close
     (tie.spec
-    Inv-loop
-    μ-loop
-    loop-holds
-    slopes-at-requires
-    abs-requires
-    clamp-requires
-    add-counter
-    loop-less
-    loop-again
-    returns
-    returns-2)
+    Inv-loop μ-loop loop-holds (λ c κs. search needs) (λ c κs. search needs) (λ c κs. search needs) (λ c. omega arith)
+    (λ c. omega arith) loop-again returns returns-2)

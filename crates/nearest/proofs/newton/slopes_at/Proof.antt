@@ -4,32 +4,17 @@ use borrow.Author.Needs.{needs}
 use Rattle.nearest.proofs.newton.slopes_at.Statement.{statement}
 use Rattle.nearest.proofs.newton.slopes_at.Tie as tie
 
-point-requires : tie.Need-point-requires
-point-requires c κs = search needs
-
-point-requires-2 : tie.Need-point-requires-2
-point-requires-2 c κs = search needs
-
-point-requires-3 : tie.Need-point-requires-3
-point-requires-3 c κs = search needs
-
-slope-requires : tie.Need-slope-requires
-slope-requires c κs = search needs
-
-bend-requires : tie.Need-bend-requires
-bend-requires c κs = search needs
-
 returns : tie.Need-returns
 unfolding slopesAt
-returns c = rw (← c .before .before .before .before .point .ensures, ← c .before .before .before .point2 .ensures, ← c .before .before .point3 .ensures, ← c .before .slope .ensures, ← c .bend .ensures)
+returns c =
+    let point3 = c .before .before in
+    let point2 = point3 .before in
+    let point = point2 .before in
+    rw (← point .point .ensures, ← point2 .point2 .ensures, ← point3 .point3 .ensures, ← c .before .slope .ensures, ← c .bend .ensures)
 
 pub slopes-at-spec : {M : Type 1} → statement M
 slopes-at-spec =
     tie.close
     (tie.spec
-    point-requires
-    point-requires-2
-    point-requires-3
-    slope-requires
-    bend-requires
+    (λ c κs. search needs) (λ c κs. search needs) (λ c κs. search needs) (λ c κs. search needs) (λ c κs. search needs)
     returns)

@@ -4,37 +4,25 @@ use borrow.Author.Needs.{needs}
 use Rattle.nearest.proofs.param.end_param.Statement.{statement}
 use Rattle.nearest.proofs.param.end_param.Tie as tie
 
-sin-cos-requires : tie.Need-sin-cos-requires
-sin-cos-requires c κs = search needs
-
-point-requires : tie.Need-point-requires
-point-requires c κs = search needs
-
-squared-dist-requires : tie.Need-squared-dist-requires
-squared-dist-requires c κs = search needs
-
-point-requires-2 : tie.Need-point-requires-2
-point-requires-2 c κs = search needs
-
-squared-dist-requires-2 : tie.Need-squared-dist-requires-2
-squared-dist-requires-2 c κs = search needs
-
 returns : tie.Need-returns
 unfolding endParam
-returns c = rw (← c .before .before .before .before .point .ensures, ← c .before .before .before .squared-dist .ensures, ← c .before .before .point2 .ensures, ← c .before .squared-dist2 .ensures, c .if1 .taken)
+returns c =
+    let point2 = c .before .before in
+    let squared-dist = point2 .before in
+    let point = squared-dist .before in
+    rw (← point .point .ensures, ← squared-dist .squared-dist .ensures, ← point2 .point2 .ensures, ← c .before .squared-dist2 .ensures, c .if1 .taken)
 
 returns-2 : tie.Need-returns-2
 unfolding endParam
-returns-2 c = rw (← c .before .before .before .before .point .ensures, ← c .before .before .before .squared-dist .ensures, ← c .before .before .point2 .ensures, ← c .before .squared-dist2 .ensures, c .if1 .left)
+returns-2 c =
+    let point2 = c .before .before in
+    let squared-dist = point2 .before in
+    let point = squared-dist .before in
+    rw (← point .point .ensures, ← squared-dist .squared-dist .ensures, ← point2 .point2 .ensures, ← c .before .squared-dist2 .ensures, c .if1 .left)
 
 pub end-param-spec : {M : Type 1} → statement M
 end-param-spec =
     tie.close
     (tie.spec
-    sin-cos-requires
-    point-requires
-    squared-dist-requires
-    point-requires-2
-    squared-dist-requires-2
-    returns
-    returns-2)
+    (λ c κs. search needs) (λ c κs. search needs) (λ c κs. search needs) (λ c κs. search needs) (λ c κs. search needs)
+    returns returns-2)

@@ -4,15 +4,10 @@ use borrow.Author.Needs.{needs}
 use Rattle.nearest.proofs.points.point.Statement.{statement}
 use Rattle.nearest.proofs.points.point.Tie as tie
 
-sin-cos-requires : tie.Need-sin-cos-requires
-sin-cos-requires c κs = search needs
-
-turn-point-requires : tie.Need-turn-point-requires
-turn-point-requires c κs = search needs
-
 returns : tie.Need-returns
 unfolding ellipsePoint
 returns c = rw (c .turn-point .ensures, c .before .sin-cos .ensures .1, c .before .sin-cos .ensures .0, c .before .before .before .pre .1, c .before .before .before .pre .0)
 
 pub point-spec : {M : Type 1} → statement M
-point-spec = tie.close (tie.spec sin-cos-requires turn-point-requires returns)
+point-spec =
+    tie.close (tie.spec (λ c κs. search needs) (λ c κs. search needs) returns)

@@ -14,30 +14,17 @@ Inv-loop a turn p span n best₀ i₀ i-end best i = (i ≤ n + 1) × (best ≡ 
 abbrev μ-loop : tie.MeasureT-loop
 μ-loop a turn p span n best₀ i₀ i-end best i = n + 1 - i
 
-add-i-end : tie.Need-add-i-end Inv-loop μ-loop
-add-i-end c = omega arith
-
 loop-holds : tie.Need-loop-holds Inv-loop μ-loop
 unfolding sampled
 loop-holds c = (omega arith, refl)
 
-sample-requires : tie.Need-sample-requires Inv-loop μ-loop
-sample-requires c κs = search needs
-
-closer-requires : tie.Need-closer-requires Inv-loop μ-loop
-closer-requires c κs = search needs
-
-add-i : tie.Need-add-i Inv-loop μ-loop
-add-i c = omega arith
-
-loop-less : tie.Need-loop-less Inv-loop μ-loop
-loop-less c = omega arith
-
 loop-again : tie.Need-loop-again Inv-loop μ-loop
 unfolding sampled
 loop-again c =
-    let z = c .before .before .before .before .args in
-    let l = c .before .before .before .loop in
+    let loop = c .before .before .before in
+    let start = loop .before in
+    let z = start .args in
+    let l = loop .loop in
     (omega arith, rw (c .closer .ensures, c .before .sample .ensures, add-one) (ap (closer (z .a) (z .p) (sample (z .a) (z .span) (z .n) (l .i))) (l .inv .1)))
 
 returns : tie.Need-returns Inv-loop μ-loop
@@ -49,13 +36,5 @@ pub best-of-spec : {M : Type 1} → statement M
 best-of-spec =
     tie.close
     (tie.spec
-    Inv-loop
-    μ-loop
-    add-i-end
-    loop-holds
-    sample-requires
-    closer-requires
-    add-i
-    loop-less
-    loop-again
-    returns)
+    Inv-loop μ-loop (λ c. omega arith) loop-holds (λ c κs. search needs) (λ c κs. search needs) (λ c. omega arith)
+    (λ c. omega arith) loop-again returns)

@@ -4,12 +4,6 @@ use borrow.Author.Needs.{needs}
 use Rattle.nearest.proofs.samples.closer.Statement.{statement}
 use Rattle.nearest.proofs.samples.closer.Tie as tie
 
-point-requires : tie.Need-point-requires
-point-requires c κs = search needs
-
-squared-dist-requires : tie.Need-squared-dist-requires
-squared-dist-requires c κs = search needs
-
 returns : tie.Need-returns
 unfolding closer
 returns c = rw (← c .before .before .before .point .ensures, ← c .before .before .squared-dist .ensures, c .if1 .taken)
@@ -19,4 +13,5 @@ unfolding closer
 returns-2 c = rw (← c .before .before .before .point .ensures, ← c .before .before .squared-dist .ensures, c .if1 .left)
 
 pub closer-spec : {M : Type 1} → statement M
-closer-spec = tie.close (tie.spec point-requires squared-dist-requires returns returns-2)
+closer-spec =
+    tie.close (tie.spec (λ c κs. search needs) (λ c κs. search needs) returns returns-2)

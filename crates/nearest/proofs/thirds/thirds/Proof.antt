@@ -18,15 +18,6 @@ loop-holds : tie.Need-loop-holds Inv-loop μ-loop
 unfolding thirds
 loop-holds c = (omega arith, refl)
 
-shrink-requires : tie.Need-shrink-requires Inv-loop μ-loop
-shrink-requires c κs = search needs
-
-add-counter : tie.Need-add-counter Inv-loop μ-loop
-add-counter c = omega arith
-
-loop-less : tie.Need-loop-less Inv-loop μ-loop
-loop-less c = omega arith
-
 loop-again : tie.Need-loop-again Inv-loop μ-loop
 unfolding thirds
 loop-again c =
@@ -41,4 +32,5 @@ returns c =
 pub thirds-spec : {M : Type 1} → statement M
 thirds-spec =
     tie.close
-    (tie.spec Inv-loop μ-loop loop-holds shrink-requires add-counter loop-less loop-again returns)
+    (tie.spec
+    Inv-loop μ-loop loop-holds (λ c κs. search needs) (λ c. omega arith) (λ c. omega arith) loop-again returns)

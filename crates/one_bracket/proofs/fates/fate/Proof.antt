@@ -5,32 +5,17 @@ use borrow.Author.Needs.{needs}
 use Rattle.one_bracket.proofs.fates.fate.Statement.{statement}
 use Rattle.one_bracket.proofs.fates.fate.Tie as tie
 
-point-requires : tie.Need-point-requires
-point-requires c κs = search needs
-
-theta-requires : tie.Need-theta-requires
-theta-requires c κs = search needs
-
-arc-param-in-span-requires : tie.Need-arc-param-in-span-requires
-arc-param-in-span-requires c κs = search needs
-
-arc-param-in-span-requires-2 : tie.Need-arc-param-in-span-requires-2
-arc-param-in-span-requires-2 c κs = search needs
-
-judge-requires : tie.Need-judge-requires
-judge-requires c κs = search needs
-
 returns : tie.Need-returns
 unfolding fate
-returns c = λ hs lent e w. c .judge .ensures hs lent e w ∙ rw (c .before .before .arc-param-in-span .ensures, c .before .arc-param-in-span2 .ensures, c .before .before .before .theta .ensures, c .before .before .before .before .point .ensures)
+returns c =
+    let arc-param-in-span = c .before .before in
+    let theta = arc-param-in-span .before in
+    let point = theta .before in
+    λ hs lent e w. c .judge .ensures hs lent e w ∙ rw (arc-param-in-span .arc-param-in-span .ensures, c .before .arc-param-in-span2 .ensures, theta .theta .ensures, point .point .ensures)
 
 pub fate-spec : {M : Type 1} → statement M
 fate-spec =
     tie.close
     (tie.spec
-    point-requires
-    theta-requires
-    arc-param-in-span-requires
-    arc-param-in-span-requires-2
-    judge-requires
+    (λ c κs. search needs) (λ c κs. search needs) (λ c κs. search needs) (λ c κs. search needs) (λ c κs. search needs)
     returns)

@@ -4,12 +4,10 @@ use borrow.Author.Needs.{needs}
 use Rattle.one_bracket.proofs.fates.near.Statement.{statement}
 use Rattle.one_bracket.proofs.fates.near.Tie as tie
 
-abs-requires : tie.Need-abs-requires
-abs-requires c κs = search needs
-
 returns : tie.Need-returns
 unfolding near
 returns c = rw (c .abs .ensures)
 
 pub near-spec : {M : Type 1} → statement M
-near-spec = tie.close (tie.spec abs-requires returns)
+near-spec =
+    tie.close (tie.spec (λ c κs. search needs) returns)

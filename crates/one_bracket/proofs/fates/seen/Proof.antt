@@ -22,28 +22,13 @@ abbrev μ-loop : tie.MeasureT-loop
 loop-holds : tie.Need-loop-holds Inv-loop μ-loop
 loop-holds c = (omega arith, refl, λ hs lent e w. refl)
 
-mul-near : tie.Need-mul-near Inv-loop μ-loop
-mul-near c = omega arith
-
-mul-near-2 : tie.Need-mul-near-2 Inv-loop μ-loop
-mul-near-2 c = omega arith
-
-shared-slice-read-near : tie.Need-shared-slice-read-near Inv-loop μ-loop
-shared-slice-read-near c = omega arith
-
-near-requires : tie.Need-near-requires Inv-loop μ-loop
-near-requires c κs = tt
-
-add-i : tie.Need-add-i Inv-loop μ-loop
-add-i c = omega arith
-
-loop-less : tie.Need-loop-less Inv-loop μ-loop
-loop-less c = omega arith
-
 loop-again : tie.Need-loop-again Inv-loop μ-loop
 loop-again c =
-    let l = c .before .before .before .before .loop in
-    let z = c .before .before .before .before .before .before .args in
+    let in-loop = c .before .before .before in
+    let loop = in-loop .before in
+    let start = loop .before .before in
+    let l = loop .loop in
+    let z = start .args in
     (omega arith, l .inv .1, λ hs lent e w. l .inv .2 hs lent e w ∙ rw (← w, ← c .before .near .ensures, c .if1 .left) at (double-step (z .t) hs lent (l .i) (omega arith)))
 
 returns : tie.Need-returns Inv-loop μ-loop
@@ -53,23 +38,16 @@ returns c =
 
 returns-2 : tie.Need-returns-2 Inv-loop μ-loop
 returns-2 c =
-    let l = c .before .before .before .before .loop in
-    let z = c .before .before .before .before .before .before .args in
+    let in-loop = c .before .before .before in
+    let loop = in-loop .before in
+    let start = loop .before .before in
+    let l = loop .loop in
+    let z = start .args in
     λ hs lent e w. sym (l .inv .2 hs lent e w ∙ rw (← w, ← c .before .near .ensures, c .if1 .taken) at (double-step (z .t) hs lent (l .i) (omega arith)))
 
 pub seen-spec : {M : Type 1} → statement M
 seen-spec =
     tie.close
     (tie.spec
-    Inv-loop
-    μ-loop
-    loop-holds
-    mul-near
-    mul-near-2
-    shared-slice-read-near
-    near-requires
-    add-i
-    loop-less
-    loop-again
-    returns
-    returns-2)
+    Inv-loop μ-loop loop-holds (λ c. omega arith) (λ c. omega arith) (λ c. omega arith) (λ c κs. tt) (λ c. omega arith)
+    (λ c. omega arith) loop-again returns returns-2)

@@ -4,12 +4,6 @@ use borrow.Author.Needs.{needs}
 use Rattle.one_bracket.proofs.narrowing.halve.Statement.{statement}
 use Rattle.one_bracket.proofs.narrowing.halve.Tie as tie
 
-middle-requires : tie.Need-middle-requires
-middle-requires c κs = search needs
-
-value-requires : tie.Need-value-requires
-value-requires c κs = search needs
-
 returns : tie.Need-returns
 unfolding halved
 returns c = rw (← c .before .before .before .middle .ensures, ← c .before .before .value .ensures, c .if1 .taken)
@@ -19,4 +13,5 @@ unfolding halved
 returns-2 c = rw (← c .before .before .before .middle .ensures, ← c .before .before .value .ensures, c .if1 .left)
 
 pub halve-spec : {M : Type 1} → statement M
-halve-spec = tie.close (tie.spec middle-requires value-requires returns returns-2)
+halve-spec =
+    tie.close (tie.spec (λ c κs. search needs) (λ c κs. search needs) returns returns-2)

@@ -18,15 +18,6 @@ abbrev μ-loop : tie.MeasureT-loop
 loop-holds : tie.Need-loop-holds Inv-loop μ-loop
 loop-holds c = (omega arith, sym (narrowed-none _ _))
 
-halve-requires : tie.Need-halve-requires Inv-loop μ-loop
-halve-requires c κs = search needs
-
-add-counter : tie.Need-add-counter Inv-loop μ-loop
-add-counter c = omega arith
-
-loop-less : tie.Need-loop-less Inv-loop μ-loop
-loop-less c = omega arith
-
 loop-again : tie.Need-loop-again Inv-loop μ-loop
 loop-again c = (omega arith, rw (c .halve .ensures, narrowed-more) (ap (halved (value (c .before .before .before .args .f))) (c .before .before .loop .inv .1)))
 
@@ -38,4 +29,5 @@ returns c =
 pub halvings-spec : {M : Type 1} → statement M
 halvings-spec =
     tie.close
-    (tie.spec Inv-loop μ-loop loop-holds halve-requires add-counter loop-less loop-again returns)
+    (tie.spec
+    Inv-loop μ-loop loop-holds (λ c κs. search needs) (λ c. omega arith) (λ c. omega arith) loop-again returns)

@@ -5,18 +5,10 @@ use borrow.Author.Needs.{needs}
 use Rattle.one_bracket.proofs.values.framed.Statement.{statement}
 use Rattle.one_bracket.proofs.values.framed.Tie as tie
 
-sin-cos-requires : tie.Need-sin-cos-requires
-sin-cos-requires c κs = search needs
-
-sin-cos-requires-2 : tie.Need-sin-cos-requires-2
-sin-cos-requires-2 c κs = search needs
-
-arc-radii-requires : tie.Need-arc-radii-requires
-arc-radii-requires c κs = search needs
-
 returns : tie.Need-returns
 unfolding frame
 returns c = rw (sin-cos-is _ _ _ (c .before .before .sin-cos .ensures), sin-cos-is _ _ _ (c .before .sin-cos2 .ensures), c .arc-radii .ensures)
 
 pub framed-spec : {M : Type 1} → statement M
-framed-spec = tie.close (tie.spec sin-cos-requires sin-cos-requires-2 arc-radii-requires returns)
+framed-spec =
+    tie.close (tie.spec (λ c κs. search needs) (λ c κs. search needs) (λ c κs. search needs) returns)

@@ -4,12 +4,10 @@ use borrow.Author.Needs.{needs}
 use Rattle.one_bracket.proofs.values.unit.Statement.{statement}
 use Rattle.one_bracket.proofs.values.unit.Tie as tie
 
-to-unit-requires : tie.Need-to-unit-requires
-to-unit-requires c κs = search needs
-
 returns : tie.Need-returns
 unfolding unit
 returns c = c .to-unit .ensures
 
 pub unit-spec : {M : Type 1} → statement M
-unit-spec = tie.close (tie.spec to-unit-requires returns)
+unit-spec =
+    tie.close (tie.spec (λ c κs. search needs) returns)

@@ -4,36 +4,15 @@ use Rattle.points.specs.Told.{arcPointAtTold}
 use Rattle.points.proofs.positions.arc_point_at.Statement.{statement}
 use Rattle.points.proofs.positions.arc_point_at.Tie as tie
 
-none-requires : tie.Need-none-requires
-none-requires c κs = tt
-
-arc-requires : tie.Need-arc-requires
-arc-requires c κs = tt
-
-angle-requires : tie.Need-angle-requires
-angle-requires c κs = tt
-
-refusal-requires : tie.Need-refusal-requires
-refusal-requires c κs = tt
-
-arc-point-at-requires : tie.Need-arc-point-at-requires
-arc-point-at-requires c κs = tt
-
-as-pair-requires : tie.Need-as-pair-requires
-as-pair-requires c κs = tt
-
 returns : tie.Need-returns
 unfolding arcPointAtTold tested
-returns c = rw (c .as-pair .ensures, c .before .arc-point-at .ensures, c .before .before .refusal .ensures, c .before .before .before .angle .ensures, c .before .before .before .before .arc .ensures, c .before .before .before .before .before .none .ensures)
+returns c =
+    let refusal = c .before .before in
+    let angle = refusal .before in
+    let arc = angle .before in
+    let none = arc .before in
+    rw (c .as-pair .ensures, c .before .arc-point-at .ensures, refusal .refusal .ensures, angle .angle .ensures, arc .arc .ensures, none .none .ensures)
 
 pub arc-point-at-spec : {M : Type 1} → statement M
 arc-point-at-spec =
-    tie.close
-    (tie.spec
-    none-requires
-    arc-requires
-    angle-requires
-    refusal-requires
-    arc-point-at-requires
-    as-pair-requires
-    returns)
+    tie.close (tie.spec (λ c κs. tt) (λ c κs. tt) (λ c κs. tt) (λ c κs. tt) (λ c κs. tt) (λ c κs. tt) returns)

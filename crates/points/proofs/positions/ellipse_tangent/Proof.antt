@@ -4,44 +4,28 @@ use Rattle.points.specs.Told.{ellipseTangentTold}
 use Rattle.points.proofs.positions.ellipse_tangent.Statement.{statement}
 use Rattle.points.proofs.positions.ellipse_tangent.Tie as tie
 
-none-requires : tie.Need-none-requires
-none-requires c κs = tt
-
-coordinate-requires : tie.Need-coordinate-requires
-coordinate-requires c κs = tt
-
-coordinate-requires-2 : tie.Need-coordinate-requires-2
-coordinate-requires-2 c κs = tt
-
-angle-requires : tie.Need-angle-requires
-angle-requires c κs = tt
-
-angle-requires-2 : tie.Need-angle-requires-2
-angle-requires-2 c κs = tt
-
-refusal-requires : tie.Need-refusal-requires
-refusal-requires c κs = tt
-
-ellipse-tangent-requires : tie.Need-ellipse-tangent-requires
-ellipse-tangent-requires c κs = tt
-
-as-pair-requires : tie.Need-as-pair-requires
-as-pair-requires c κs = tt
-
 returns : tie.Need-returns
 unfolding ellipseTangentTold tested
-returns c = rw (c .as-pair .ensures, c .before .ellipse-tangent .ensures, c .before .before .refusal .ensures, c .before .before .before .angle2 .ensures, c .before .before .before .before .angle .ensures, c .before .before .before .before .before .coordinate2 .ensures, c .before .before .before .before .before .before .coordinate .ensures, c .before .before .before .before .before .before .before .none .ensures)
+returns c =
+    let refusal = c .before .before in
+    let angle2 = refusal .before in
+    let angle = angle2 .before in
+    let coordinate2 = angle .before in
+    let coordinate = coordinate2 .before in
+    let none = coordinate .before in
+    rw (
+      c .as-pair .ensures,
+      c .before .ellipse-tangent .ensures,
+      refusal .refusal .ensures,
+      angle2 .angle2 .ensures,
+      angle .angle .ensures,
+      coordinate2 .coordinate2 .ensures,
+      coordinate .coordinate .ensures,
+      none .none .ensures,
+    )
 
 pub ellipse-tangent-spec : {M : Type 1} → statement M
 ellipse-tangent-spec =
     tie.close
     (tie.spec
-    none-requires
-    coordinate-requires
-    coordinate-requires-2
-    angle-requires
-    angle-requires-2
-    refusal-requires
-    ellipse-tangent-requires
-    as-pair-requires
-    returns)
+    (λ c κs. tt) (λ c κs. tt) (λ c κs. tt) (λ c κs. tt) (λ c κs. tt) (λ c κs. tt) (λ c κs. tt) (λ c κs. tt) returns)

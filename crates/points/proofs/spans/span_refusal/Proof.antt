@@ -4,9 +4,6 @@ use borrow.Author.Tests.{ne-eqb}
 use Rattle.points.proofs.spans.span_refusal.Statement.{statement}
 use Rattle.points.proofs.spans.span_refusal.Tie as tie
 
-outside-requires : tie.Need-outside-requires
-outside-requires c κs = search needs
-
 returns : tie.Need-returns
 returns c = rw (c .if1 .taken, c .before .outside .ensures)
 
@@ -14,4 +11,5 @@ returns-2 : tie.Need-returns-2
 returns-2 c = rw (ne-eqb _ _ (c .if1 .left))
 
 pub span-refusal-spec : {M : Type 1} → statement M
-span-refusal-spec = tie.close (tie.spec outside-requires returns returns-2)
+span-refusal-spec =
+    tie.close (tie.spec (λ c κs. search needs) returns returns-2)

@@ -4,15 +4,10 @@ use borrow.Author.Needs.{needs}
 use Rattle.queries.proofs.crossings.closed.Statement.{statement}
 use Rattle.queries.proofs.crossings.closed.Tie as tie
 
-write-requires : tie.Need-write-requires
-write-requires c κs = search needs
-
-same-length : tie.Need-same-length
-same-length c = search needs
-
 returns : tie.Need-returns
 returns c =
     (rw (c .before .before .write .ensures .0) refl, c .before .before .write .ensures .1)
 
 pub closed-spec : {M : Type 1} → statement M
-closed-spec = tie.close (tie.spec write-requires same-length returns)
+closed-spec =
+    tie.close (tie.spec (λ c κs. search needs) (λ c. search needs) returns)

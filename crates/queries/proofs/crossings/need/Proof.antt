@@ -5,32 +5,24 @@ use borrow.Author.Needs.{needs}
 use Rattle.queries.proofs.crossings.need.Statement.{statement}
 use Rattle.queries.proofs.crossings.need.Tie as tie
 
-returns : tie.Need-returns
-returns c = search needs
-
-cell-count-requires : tie.Need-cell-count-requires
-cell-count-requires c κs = search needs
-
-cast-result : tie.Need-cast-result
-cast-result c = search needs
-
-mul-result : tie.Need-mul-result
-mul-result c = search needs
-
 returns-2 : tie.Need-returns-2
 returns-2 c h =
-    let a = c .before .before .before .before .before .args in
-    rw (c .cell-count .ensures) (sym (need-hunted (a .a) (a .b) (a .depth) (c .before .if2 .taken)))
-
-mul-result-2 : tie.Need-mul-result-2
-mul-result-2 c = search needs
+    let test2 = c .before in
+    let test = test2 .before .before .before in
+    let start = test .before in
+    let a = start .args in
+    rw (c .cell-count .ensures) (sym (need-hunted (a .a) (a .b) (a .depth) (test2 .if2 .taken)))
 
 returns-3 : tie.Need-returns-3
 returns-3 c h =
-    let a = c .before .before .before .before .args in
+    let test = c .before .before .before in
+    let start = test .before in
+    let a = start .args in
     sym (need-closed (a .a) (a .b) (a .depth) (c .if2 .left))
 
 pub need-spec : {M : Type 1} → statement M
 need-spec =
     tie.close
-    (tie.spec returns cell-count-requires cast-result mul-result returns-2 mul-result-2 returns-3)
+    (tie.spec
+    (λ c. search needs) (λ c κs. search needs) (λ c. search needs) (λ c. search needs) returns-2 (λ c. search needs)
+    returns-3)

@@ -8,44 +8,42 @@ use Rattle.queries.proofs.crossings.pair.Tie as tie
 
 hunt-requires : tie.Need-hunt-requires
 hunt-requires c κs =
-    let start = c .before .before .before .before .before in
-    (omega (arith, start .pre .0), cells-fit (start .args .a) (start .args .b) (start .args .depth) (length (start .args .room .now)) (c .before .if1 .taken) (start .pre .1))
-
-same-length : tie.Need-same-length
-same-length c = search needs
+    let test = c .before in
+    let struct-known = test .before .before in
+    let start = struct-known .before .before in
+    (omega (arith, start .pre .0), cells-fit (start .args .a) (start .args .b) (start .args .depth) (length (start .args .room .now)) (test .if1 .taken) (start .pre .1))
 
 returns : tie.Need-returns
 returns c =
-    let a = c .before .before .before .before .before .before .before .before .args in
-    let is = pair-hunted (a .a) (a .b) (a .depth) (c .before .before .before .before .if1 .taken) in
-    rw is (c .before .before .hunt .ensures .counts, c .before .before .hunt .ensures .hits)
-
-intersect-circle-circle-requires : tie.Need-intersect-circle-circle-requires
-intersect-circle-circle-requires c κs = search needs
+    let hunt = c .before .before in
+    let test = hunt .before .before in
+    let struct-known = test .before .before in
+    let start = struct-known .before .before in
+    let a = start .args in
+    let is = pair-hunted (a .a) (a .b) (a .depth) (test .if1 .taken) in
+    rw is (hunt .hunt .ensures .counts, hunt .hunt .ensures .hits)
 
 closed-requires : tie.Need-closed-requires
 closed-requires c κs =
-    let start = c .before .before .before .before .before .before in
+    let test = c .before .before in
+    let struct-known = test .before .before in
+    let start = struct-known .before .before in
     let a = start .args in
-    two-fit (c .before .intersect-circle-circle .result) (length (a .room .now)) (rw (need-closed (a .a) (a .b) (a .depth) (c .before .before .if1 .left)) at (start .pre .1))
-
-same-length-2 : tie.Need-same-length-2
-same-length-2 c = search needs
+    two-fit (c .before .intersect-circle-circle .result) (length (a .room .now)) (rw (need-closed (a .a) (a .b) (a .depth) (test .if1 .left)) at (start .pre .1))
 
 returns-2 : tie.Need-returns-2
 returns-2 c =
-    let a = c .before .before .before .before .before .before .before .before .before .args in
-    let is = pair-closed (a .a) (a .b) (a .depth) (c .before .before .before .before .before .if1 .left) in
-    rw (is, ← c .before .before .before .before .intersect-circle-circle .ensures) (c .before .before .closed .ensures)
+    let closed = c .before .before in
+    let intersect-circle-circle = closed .before .before in
+    let test = intersect-circle-circle .before in
+    let struct-known = test .before .before in
+    let start = struct-known .before .before in
+    let a = start .args in
+    let is = pair-closed (a .a) (a .b) (a .depth) (test .if1 .left) in
+    rw (is, ← intersect-circle-circle .intersect-circle-circle .ensures) (closed .closed .ensures)
 
 pub pair-spec : {M : Type 1} → statement M
 pair-spec =
     tie.close
     (tie.spec
-    hunt-requires
-    same-length
-    returns
-    intersect-circle-circle-requires
-    closed-requires
-    same-length-2
-    returns-2)
+    hunt-requires (λ c. search needs) returns (λ c κs. search needs) closed-requires (λ c. search needs) returns-2)

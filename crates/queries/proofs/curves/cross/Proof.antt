@@ -4,143 +4,89 @@ use borrow.Author.Needs.{needs}
 use Rattle.queries.proofs.curves.cross.Statement.{statement}
 use Rattle.queries.proofs.curves.cross.Tie as tie
 
-enum-known-a : tie.Need-enum-known-a
-enum-known-a c = search needs
-
-enum-known-b : tie.Need-enum-known-b
-enum-known-b c = search needs
-
-at-requires : tie.Need-at-requires
-at-requires c κs = search needs
-
-at-requires-2 : tie.Need-at-requires-2
-at-requires-2 c κs = search needs
-
-at-requires-3 : tie.Need-at-requires-3
-at-requires-3 c κs = search needs
-
-at-requires-4 : tie.Need-at-requires-4
-at-requires-4 c κs = search needs
-
-intersect-segments-requires : tie.Need-intersect-segments-requires
-intersect-segments-requires c κs = search needs
-
-one-requires : tie.Need-one-requires
-one-requires c κs = search needs
-
 closed-requires : tie.Need-closed-requires
 closed-requires c κs =
-    rw (c .before .one .ensures) (one-fits (c .before .before .intersect-segments .result) _ (rw (c .before .before .before .before .before .before .before .before .before .before .before .a .given .1, c .before .before .before .before .before .before .before .before .b .given .1) at (c .before .before .before .before .before .before .before .before .before .before .before .before .before .before .pre .1)))
-
-enum-known-b-2 : tie.Need-enum-known-b-2
-enum-known-b-2 c = search needs
-
-at-requires-5 : tie.Need-at-requires-5
-at-requires-5 c κs = search needs
-
-at-requires-6 : tie.Need-at-requires-6
-at-requires-6 c κs = search needs
-
-intersect-segment-arc-requires : tie.Need-intersect-segment-arc-requires
-intersect-segment-arc-requires c κs = search needs
+    let intersect-segments = c .before .before in
+    let at2 = intersect-segments .before .before .before in
+    let b = at2 .before .before .before in
+    let a = b .before .before .before in
+    let start = a .before .before .before in
+    rw (c .before .one .ensures) (one-fits (intersect-segments .intersect-segments .result) _ (rw (a .a .given .1, b .b .given .1) at (start .pre .1)))
 
 closed-requires-2 : tie.Need-closed-requires-2
 closed-requires-2 c κs =
-    two-fit (c .before .intersect-segment-arc .result) _ (rw (c .before .before .before .before .before .before .before .before .a .given .1, c .before .before .before .before .before .b2 .given .1) at (c .before .before .before .before .before .before .before .before .before .before .before .pre .1))
-
-enum-known-a-2 : tie.Need-enum-known-a-2
-enum-known-a-2 c = search needs
-
-enum-known-b-3 : tie.Need-enum-known-b-3
-enum-known-b-3 c = search needs
-
-at-requires-7 : tie.Need-at-requires-7
-at-requires-7 c κs = search needs
-
-at-requires-8 : tie.Need-at-requires-8
-at-requires-8 c κs = search needs
-
-intersect-segment-arc-requires-2 : tie.Need-intersect-segment-arc-requires-2
-intersect-segment-arc-requires-2 c κs = search needs
-
-exchanged-requires : tie.Need-exchanged-requires
-exchanged-requires c κs = search needs
+    let at5 = c .before .before .before in
+    let b2 = at5 .before .before in
+    let a = b2 .before .before .before in
+    let start = a .before .before .before in
+    two-fit (c .before .intersect-segment-arc .result) _ (rw (a .a .given .1, b2 .b2 .given .1) at (start .pre .1))
 
 closed-requires-3 : tie.Need-closed-requires-3
 closed-requires-3 c κs =
-    two-fit (c .before .exchanged .result) _ (rw (c .before .before .before .before .before .before .before .before .before .a2 .given .1, c .before .before .before .before .before .before .b3 .given .1) at (c .before .before .before .before .before .before .before .before .before .before .before .before .pre .1))
-
-enum-known-b-4 : tie.Need-enum-known-b-4
-enum-known-b-4 c = search needs
+    let at8 = c .before .before .before in
+    let b3 = at8 .before .before .before in
+    let a2 = b3 .before .before .before in
+    let start = a2 .before .before .before in
+    two-fit (c .before .exchanged .result) _ (rw (a2 .a2 .given .1, b3 .b3 .given .1) at (start .pre .1))
 
 pair-requires : tie.Need-pair-requires
 pair-requires c κs =
-    let start = c .before .before .before .before .before .before .before .before in
-    (start .pre .0, rw (c .before .before .before .before .before .a2 .given .1, c .before .before .b4 .given .1) at (start .pre .1))
-
-same-length : tie.Need-same-length
-same-length c = search needs
+    let b4 = c .before .before in
+    let a2 = b4 .before .before .before in
+    let start = a2 .before .before .before in
+    (start .pre .0, rw (a2 .a2 .given .1, b4 .b4 .given .1) at (start .pre .1))
 
 returns : tie.Need-returns
 returns c =
-    rw (c .before .before .before .before .before .before .before .before .before .before .before .before .before .before .a .given .1, c .before .before .before .before .before .before .before .before .before .before .before .b .given .1)
-    (rw (c .before .before .before .before .one .ensures, c .before .before .before .before .before .intersect-segments .ensures, c .before .before .before .before .before .before .at4 .ensures, c .before .before .before .before .before .before .before .at3 .ensures, c .before .before .before .before .before .before .before .before .at2 .ensures, c .before .before .before .before .before .before .before .before .before .at .ensures) at (c .before .before .closed .ensures))
-
-same-length-2 : tie.Need-same-length-2
-same-length-2 c = search needs
+    let closed = c .before .before in
+    let one = closed .before .before in
+    let intersect-segments = one .before in
+    let at4 = intersect-segments .before in
+    let at3 = at4 .before in
+    let at2 = at3 .before in
+    let after-at = at2 .before in
+    let b = after-at .before .before in
+    let a = b .before .before .before in
+    rw (a .a .given .1, b .b .given .1)
+    (rw (one .one .ensures, intersect-segments .intersect-segments .ensures, at4 .at4 .ensures, at3 .at3 .ensures, at2 .at2 .ensures, after-at .at .ensures) at (closed .closed .ensures))
 
 returns-2 : tie.Need-returns-2
 returns-2 c =
-    rw (c .before .before .before .before .before .before .before .before .before .before .before .a .given .1, c .before .before .before .before .before .before .before .before .b2 .given .1)
-    (rw (c .before .before .before .before .intersect-segment-arc .ensures, c .before .before .before .before .before .at6 .ensures, c .before .before .before .before .before .before .at5 .ensures) at (c .before .before .closed2 .ensures))
-
-same-length-3 : tie.Need-same-length-3
-same-length-3 c = search needs
+    let closed2 = c .before .before in
+    let intersect-segment-arc = closed2 .before .before in
+    let at6 = intersect-segment-arc .before in
+    let at5 = at6 .before in
+    let b2 = at5 .before .before in
+    let a = b2 .before .before .before in
+    rw (a .a .given .1, b2 .b2 .given .1)
+    (rw (intersect-segment-arc .intersect-segment-arc .ensures, at6 .at6 .ensures, at5 .at5 .ensures) at (closed2 .closed2 .ensures))
 
 returns-3 : tie.Need-returns-3
 returns-3 c =
-    rw (c .before .before .before .before .before .before .before .before .before .before .before .before .a2 .given .1, c .before .before .before .before .before .before .before .before .before .b3 .given .1)
-    (rw (c .before .before .before .before .exchanged .ensures, c .before .before .before .before .before .intersect-segment-arc2 .ensures, c .before .before .before .before .before .before .at8 .ensures, c .before .before .before .before .before .before .before .at7 .ensures) at (c .before .before .closed3 .ensures))
-
-same-length-4 : tie.Need-same-length-4
-same-length-4 c = search needs
+    let closed3 = c .before .before in
+    let exchanged = closed3 .before .before in
+    let intersect-segment-arc2 = exchanged .before in
+    let at8 = intersect-segment-arc2 .before in
+    let at7 = at8 .before in
+    let b3 = at7 .before .before in
+    let a2 = b3 .before .before .before in
+    rw (a2 .a2 .given .1, b3 .b3 .given .1)
+    (rw (exchanged .exchanged .ensures, intersect-segment-arc2 .intersect-segment-arc2 .ensures, at8 .at8 .ensures, at7 .at7 .ensures) at (closed3 .closed3 .ensures))
 
 returns-4 : tie.Need-returns-4
 returns-4 c =
-    rw (c .before .before .before .before .before .before .before .before .a2 .given .1, c .before .before .before .before .before .b4 .given .1) (c .before .before .pair .ensures)
+    let pair = c .before .before in
+    let b4 = pair .before .before .before in
+    let a2 = b4 .before .before .before in
+    rw (a2 .a2 .given .1, b4 .b4 .given .1) (pair .pair .ensures)
 
 pub cross-spec : {M : Type 1} → statement M
 cross-spec =
     tie.close
     (tie.spec
-    enum-known-a
-    enum-known-b
-    at-requires
-    at-requires-2
-    at-requires-3
-    at-requires-4
-    intersect-segments-requires
-    one-requires
-    closed-requires
-    enum-known-b-2
-    at-requires-5
-    at-requires-6
-    intersect-segment-arc-requires
-    closed-requires-2
-    enum-known-a-2
-    enum-known-b-3
-    at-requires-7
-    at-requires-8
-    intersect-segment-arc-requires-2
-    exchanged-requires
-    closed-requires-3
-    enum-known-b-4
-    pair-requires
-    same-length
-    returns
-    same-length-2
-    returns-2
-    same-length-3
-    returns-3
-    same-length-4
-    returns-4)
+    (λ c. search needs) (λ c. search needs) (λ c κs. search needs) (λ c κs. search needs) (λ c κs. search needs)
+    (λ c κs. search needs) (λ c κs. search needs) (λ c κs. search needs) closed-requires (λ c. search needs)
+    (λ c κs. search needs) (λ c κs. search needs) (λ c κs. search needs) closed-requires-2 (λ c. search needs)
+    (λ c. search needs) (λ c κs. search needs) (λ c κs. search needs) (λ c κs. search needs) (λ c κs. search needs)
+    closed-requires-3 (λ c. search needs) pair-requires (λ c. search needs) returns (λ c. search needs) returns-2
+    (λ c. search needs) returns-3 (λ c. search needs) returns-4)

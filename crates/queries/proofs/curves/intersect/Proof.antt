@@ -10,61 +10,50 @@ use borrow.Author.Needs.{needs}
 use Rattle.queries.proofs.curves.intersect.Statement.{statement}
 use Rattle.queries.proofs.curves.intersect.Tie as tie
 
-none-requires : tie.Need-none-requires
-none-requires c κs = search needs
-
-numbers-requires : tie.Need-numbers-requires
-numbers-requires c κs = search needs
-
-numbers-requires-2 : tie.Need-numbers-requires-2
-numbers-requires-2 c κs = search needs
-
-need-requires : tie.Need-need-requires
-need-requires c κs = search needs
-
-refusal-requires : tie.Need-refusal-requires
-refusal-requires c κs = search needs
-
 cross-requires : tie.Need-cross-requires
 cross-requires c κs =
-    let start = c .before .before .before .before .before .before .before .before in
+    let refusal = c .before .before in
+    let need = refusal .before in
+    let none = need .before .before .before in
+    let start = none .before .before in
     let a = start .args in
     unrefused _ (a .depth) (curvesNeed (a .a) (a .b) (a .depth)) (length (a .room .now))
-    (sym (c .before .before .refusal .ensures ∙ refusal-need _ (a .depth) _ (curvesNeed (a .a) (a .b) (a .depth)) _ (c .before .before .before .need .ensures)) ∙ c .before .if1 .taken)
-
-same-length : tie.Need-same-length
-same-length c = search needs
+    (sym (refusal .refusal .ensures ∙ refusal-need _ (a .depth) _ (curvesNeed (a .a) (a .b) (a .depth)) _ (need .need .ensures)) ∙ c .before .if1 .taken)
 
 returns : tie.Need-returns
 returns c =
-    let start = c .before .before .before .before .before .before .before .before .before .before .before in
+    let cross = c .before .before in
+    let test = cross .before .before in
+    let refusal = test .before in
+    let need = refusal .before in
+    let faults2 = need .before in
+    let faults = faults2 .before in
+    let none = faults .before in
+    let start = none .before .before in
     let a = start .args in
-    let is : c .before .before .before .before .before .refusal .result ≡ refusalOf (curveNumbers (a .a) ++ curveNumbers (a .b)) (a .depth) (curvesNeed (a .a) (a .b) (a .depth)) (length (a .room .now)) =
-    c .before .before .before .before .before .refusal .ensures
-    ∙ refusal-need _ (a .depth) _ (curvesNeed (a .a) (a .b) (a .depth)) _ (c .before .before .before .before .before .before .need .ensures)
-    ∙ rw (c .before .before .before .before .before .before .before .numbers2 .ensures, c .before .before .before .before .before .before .before .before .numbers .ensures, c .before .before .before .before .before .before .before .before .before .none .ensures, tested-append) refl in
-    rw (c .before .before .cross .ensures .0, c .before .before .cross .ensures .1) (crossed-done _ _ _ _ _ (sym is ∙ c .before .before .before .before .if1 .taken) refl)
+    let is : refusal .refusal .result ≡ refusalOf (curveNumbers (a .a) ++ curveNumbers (a .b)) (a .depth) (curvesNeed (a .a) (a .b) (a .depth)) (length (a .room .now)) =
+    refusal .refusal .ensures
+    ∙ refusal-need _ (a .depth) _ (curvesNeed (a .a) (a .b) (a .depth)) _ (need .need .ensures)
+    ∙ rw (faults2 .curve-faults2 .ensures, faults .curve-faults .ensures, none .none .ensures, tested-append) refl in
+    rw (cross .cross .ensures .0, cross .cross .ensures .1) (crossed-done _ _ _ _ _ (sym is ∙ test .if1 .taken) refl)
 
 returns-2 : tie.Need-returns-2
 returns-2 c =
-    let start = c .before .before .before .before .before .before .before in
+    let need = c .before .before in
+    let faults2 = need .before in
+    let faults = faults2 .before in
+    let none = faults .before in
+    let start = none .before .before in
     let a = start .args in
     let is : c .before .refusal .result ≡ refusalOf (curveNumbers (a .a) ++ curveNumbers (a .b)) (a .depth) (curvesNeed (a .a) (a .b) (a .depth)) (length (a .room .now)) =
     c .before .refusal .ensures
-    ∙ refusal-need _ (a .depth) _ (curvesNeed (a .a) (a .b) (a .depth)) _ (c .before .before .need .ensures)
-    ∙ rw (c .before .before .before .numbers2 .ensures, c .before .before .before .before .numbers .ensures, c .before .before .before .before .before .none .ensures, tested-append) refl in
+    ∙ refusal-need _ (a .depth) _ (curvesNeed (a .a) (a .b) (a .depth)) _ (need .need .ensures)
+    ∙ rw (faults2 .curve-faults2 .ensures, faults .curve-faults .ensures, none .none .ensures, tested-append) refl in
     rw (← is) (crossed-refused _ _ _ _ (c .if1 .left))
 
 pub intersect-spec : {M : Type 1} → statement M
 intersect-spec =
     tie.close
     (tie.spec
-    none-requires
-    numbers-requires
-    numbers-requires-2
-    need-requires
-    refusal-requires
-    cross-requires
-    same-length
-    returns
-    returns-2)
+    (λ c κs. search needs) (λ c κs. search needs) (λ c κs. search needs) (λ c κs. search needs) (λ c κs. search needs)
+    cross-requires (λ c. search needs) returns returns-2)

@@ -4,33 +4,6 @@ use borrow.Author.Needs.{needs}
 use Rattle.queries.proofs.curves.need.Statement.{statement}
 use Rattle.queries.proofs.curves.need.Tie as tie
 
-enum-told : tie.Need-enum-told
-enum-told c = search needs
-
-enum-told-2 : tie.Need-enum-told-2
-enum-told-2 c = search needs
-
-enum-told-3 : tie.Need-enum-told-3
-enum-told-3 c = search needs
-
-mul-result : tie.Need-mul-result
-mul-result c = search needs
-
-enum-known-a : tie.Need-enum-known-a
-enum-known-a c = search needs
-
-enum-told-4 : tie.Need-enum-told-4
-enum-told-4 c = search needs
-
-mul-result-2 : tie.Need-mul-result-2
-mul-result-2 c = search needs
-
-enum-known-b : tie.Need-enum-known-b
-enum-known-b c = search needs
-
-need-requires : tie.Need-need-requires
-need-requires c κs = search needs
-
 returns : tie.Need-returns
 returns c h = rw (c .before .before .enum-told .given .1, c .enum-told2 .given .1) refl
 
@@ -41,22 +14,15 @@ returns-3 : tie.Need-returns-3
 returns-3 c h = rw (c .before .before .before .a .given .1, c .enum-told4 .given .1) refl
 
 returns-4 : tie.Need-returns-4
-returns-4 c h = rw (c .before .before .before .before .before .a .given .1, c .before .before .b .given .1) (c .need .ensures h)
+returns-4 c h =
+    let b = c .before .before in
+    let a = b .before .before .before in
+    rw (a .a .given .1, b .b .given .1) (c .need .ensures h)
 
 pub need-spec : {M : Type 1} → statement M
 need-spec =
     tie.close
     (tie.spec
-    enum-told
-    enum-told-2
-    enum-told-3
-    mul-result
-    enum-known-a
-    enum-told-4
-    mul-result-2
-    enum-known-b
-    need-requires
-    returns
-    returns-2
-    returns-3
+    (λ c. search needs) (λ c. search needs) (λ c. search needs) (λ c. search needs) (λ c. search needs)
+    (λ c. search needs) (λ c. search needs) (λ c. search needs) (λ c κs. search needs) returns returns-2 returns-3
     returns-4)

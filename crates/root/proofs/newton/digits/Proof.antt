@@ -7,14 +7,6 @@ use Rattle.root.proofs.newton.digits.Tie as tie
 float-to-bits-result : tie.Need-float-to-bits-result
 float-to-bits-result c = above-real (c .before .args .root) (c .if1 .taken)
 
-add-result : tie.Need-add-result
-add-result c = search needs
-
-returns : tie.Need-returns
-returns c = search needs
-
-returns-2 : tie.Need-returns-2
-returns-2 c = search needs
-
 pub digits-spec : {M : Type 1} → statement M
-digits-spec = tie.close (tie.spec float-to-bits-result add-result returns returns-2)
+digits-spec =
+    tie.close (tie.spec float-to-bits-result (λ c. search needs) (λ c. search needs) (λ c. search needs))

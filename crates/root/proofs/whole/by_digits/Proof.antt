@@ -19,24 +19,22 @@ loop-holds c = (omega arith, none-taken (c .args .word) (c .fits .word .fits))
 turn-requires : tie.Need-turn-requires Inv-loop μ-loop
 turn-requires c κs = (bounded _ _ _ _ _ (c .before .loop .inv .0) (c .before .loop .inv .1), c .before .loop .inv .1 .least)
 
-add-i : tie.Need-add-i Inv-loop μ-loop
-add-i c = omega arith
-
-loop-less : tie.Need-loop-less Inv-loop μ-loop
-loop-less c = omega arith
-
 loop-again : tie.Need-loop-again Inv-loop μ-loop
 loop-again c = (omega arith, taken _ _ _ _ _ _ _ _ (c .before .before .loop .inv .1) (c .turn .ensures))
 
 add-result : tie.Need-add-result Inv-loop μ-loop
 add-result c =
-    let at-loop = c .before .before .before .before .loop in
+    let in-loop = c .before .before .before in
+    let loop = in-loop .before in
+    let at-loop = loop .loop in
     let short = bounded _ _ _ _ _ (at-loop .inv .0) (at-loop .inv .1) in
     omega arith
 
 returns : tie.Need-returns Inv-loop μ-loop
 returns c =
-    let at-loop = c .before .before .before .before .loop in
+    let in-loop = c .before .before .before in
+    let loop = in-loop .before in
+    let at-loop = loop .loop in
     rw add-one (up _ _ _ (all-taken _ _ _ _ _ (at-loop .inv .0) (omega arith) (at-loop .inv .1)) (at-loop .inv .1 .least) (c .before .if1 .taken))
 
 returns-2 : tie.Need-returns-2 Inv-loop μ-loop
@@ -46,4 +44,7 @@ returns-2 c =
 
 pub by-digits-spec : {M : Type 1} → statement M
 by-digits-spec =
-    tie.close (tie.spec Inv-loop μ-loop loop-holds turn-requires add-i loop-less loop-again add-result returns returns-2)
+    tie.close
+    (tie.spec
+    Inv-loop μ-loop loop-holds turn-requires (λ c. omega arith) (λ c. omega arith) loop-again add-result returns
+    returns-2)

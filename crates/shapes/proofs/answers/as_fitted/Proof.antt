@@ -5,12 +5,6 @@ use borrow.Author.Needs.{needs}
 use Rattle.shapes.proofs.answers.as_fitted.Statement.{statement}
 use Rattle.shapes.proofs.answers.as_fitted.Tie as tie
 
-enum-known-c : tie.Need-enum-known-c
-enum-known-c c = search needs
-
-enum-told : tie.Need-enum-told
-enum-told c = search needs
-
 returns : tie.Need-returns
 returns c = rw (c .before .before .before .if1 .taken, c .before .c .given .1) refl
 
@@ -21,4 +15,5 @@ returns-3 : tie.Need-returns-3
 returns-3 c = rw (ne-eqb _ _ (c .if1 .left)) refl
 
 pub as-fitted-spec : {M : Type 1} → statement M
-as-fitted-spec = tie.close (tie.spec enum-known-c enum-told returns returns-2 returns-3)
+as-fitted-spec =
+    tie.close (tie.spec (λ c. search needs) (λ c. search needs) returns returns-2 returns-3)

@@ -4,40 +4,18 @@ use Rattle.shapes.specs.Told.{circumscribedArcTold}
 use Rattle.shapes.proofs.calls.circumscribed_arc.Statement.{statement}
 use Rattle.shapes.proofs.calls.circumscribed_arc.Tie as tie
 
-none-requires : tie.Need-none-requires
-none-requires c κs = tt
-
-point-requires : tie.Need-point-requires
-point-requires c κs = tt
-
-point-requires-2 : tie.Need-point-requires-2
-point-requires-2 c κs = tt
-
-point-requires-3 : tie.Need-point-requires-3
-point-requires-3 c κs = tt
-
-refusal-requires : tie.Need-refusal-requires
-refusal-requires c κs = tt
-
-circumscribed-arc-requires : tie.Need-circumscribed-arc-requires
-circumscribed-arc-requires c κs = tt
-
-as-through-requires : tie.Need-as-through-requires
-as-through-requires c κs = tt
-
 returns : tie.Need-returns
 unfolding circumscribedArcTold tested
-returns c = rw (c .as-through .ensures, c .before .circumscribed-arc .ensures, c .before .before .refusal .ensures, c .before .before .before .point3 .ensures, c .before .before .before .before .point2 .ensures, c .before .before .before .before .before .point .ensures, c .before .before .before .before .before .before .none .ensures)
+returns c =
+    let refusal = c .before .before in
+    let point3 = refusal .before in
+    let point2 = point3 .before in
+    let point = point2 .before in
+    let none = point .before in
+    rw (c .as-through .ensures, c .before .circumscribed-arc .ensures, refusal .refusal .ensures, point3 .point3 .ensures, point2 .point2 .ensures, point .point .ensures, none .none .ensures)
 
 pub circumscribed-arc-spec : {M : Type 1} → statement M
 circumscribed-arc-spec =
     tie.close
     (tie.spec
-    none-requires
-    point-requires
-    point-requires-2
-    point-requires-3
-    refusal-requires
-    circumscribed-arc-requires
-    as-through-requires
-    returns)
+    (λ c κs. tt) (λ c κs. tt) (λ c κs. tt) (λ c κs. tt) (λ c κs. tt) (λ c κs. tt) (λ c κs. tt) returns)

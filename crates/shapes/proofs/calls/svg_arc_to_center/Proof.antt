@@ -4,48 +4,31 @@ use Rattle.shapes.specs.Told.{svgArcToCenterTold}
 use Rattle.shapes.proofs.calls.svg_arc_to_center.Statement.{statement}
 use Rattle.shapes.proofs.calls.svg_arc_to_center.Tie as tie
 
-none-requires : tie.Need-none-requires
-none-requires c κs = tt
-
-point-requires : tie.Need-point-requires
-point-requires c κs = tt
-
-point-requires-2 : tie.Need-point-requires-2
-point-requires-2 c κs = tt
-
-coordinate-requires : tie.Need-coordinate-requires
-coordinate-requires c κs = tt
-
-coordinate-requires-2 : tie.Need-coordinate-requires-2
-coordinate-requires-2 c κs = tt
-
-angle-requires : tie.Need-angle-requires
-angle-requires c κs = tt
-
-refusal-requires : tie.Need-refusal-requires
-refusal-requires c κs = tt
-
-svg-arc-to-center-requires : tie.Need-svg-arc-to-center-requires
-svg-arc-to-center-requires c κs = tt
-
-as-center-requires : tie.Need-as-center-requires
-as-center-requires c κs = tt
-
 returns : tie.Need-returns
 unfolding svgArcToCenterTold tested
-returns c = rw (c .as-center .ensures, c .before .svg-arc-to-center .ensures, c .before .before .refusal .ensures, c .before .before .before .angle .ensures, c .before .before .before .before .coordinate2 .ensures, c .before .before .before .before .before .coordinate .ensures, c .before .before .before .before .before .before .point2 .ensures, c .before .before .before .before .before .before .before .point .ensures, c .before .before .before .before .before .before .before .before .none .ensures)
+returns c =
+    let refusal = c .before .before in
+    let angle = refusal .before in
+    let coordinate2 = angle .before in
+    let coordinate = coordinate2 .before in
+    let point2 = coordinate .before in
+    let point = point2 .before in
+    let none = point .before in
+    rw (
+      c .as-center .ensures,
+      c .before .svg-arc-to-center .ensures,
+      refusal .refusal .ensures,
+      angle .angle .ensures,
+      coordinate2 .coordinate2 .ensures,
+      coordinate .coordinate .ensures,
+      point2 .point2 .ensures,
+      point .point .ensures,
+      none .none .ensures,
+    )
 
 pub svg-arc-to-center-spec : {M : Type 1} → statement M
 svg-arc-to-center-spec =
     tie.close
     (tie.spec
-    none-requires
-    point-requires
-    point-requires-2
-    coordinate-requires
-    coordinate-requires-2
-    angle-requires
-    refusal-requires
-    svg-arc-to-center-requires
-    as-center-requires
+    (λ c κs. tt) (λ c κs. tt) (λ c κs. tt) (λ c κs. tt) (λ c κs. tt) (λ c κs. tt) (λ c κs. tt) (λ c κs. tt) (λ c κs. tt)
     returns)

@@ -1,25 +1,16 @@
 -- `sine::angle::moved` meets its contract: no digit is lost at the top. Assumes nothing.
 use mathlib.Core.Path.{_≡_}
-use Prim.Native.Nat.{ℕ, _+_, _-_, _*_, _%_, _≤_, _<_, _^_}
+use Prim.Native.Nat.{ℕ, _+_, _-_, _*_, _%_, _<_, _^_}
 use native.Mathlib.Nat.{mod-eq-of-lt, lt-of-lt-of-le}
 use native.Mathlib.Omega.{arith}
 use borrow.Author.Needs.{needs}
 use lib.Pow.{pow-mono, shl-lt}
-use Rattle.sine.specs.Angle.{field, digitsOf}
+use Rattle.laws.specs.Fields.{field, digitsOf}
 use Rattle.sine.proofs.angle.moved.Statement.{statement}
 use Rattle.sine.proofs.angle.moved.Tie as tie
 
 kept : (d k : ℕ) → d < 2 ^ 53 → k < 12 → d * 2 ^ k % 2 ^ 64 ≡ d * 2 ^ k
 kept d k h l = mod-eq-of-lt (lt-of-lt-of-le (shl-lt 53 k h) (pow-mono {i = 53 + k} {j = 64} (omega arith)))
-
-add-result : tie.Need-add-result
-add-result c = search needs
-
-sub-result : tie.Need-sub-result
-sub-result c = search needs
-
-shl-result : tie.Need-shl-result
-shl-result c = search needs
 
 returns : tie.Need-returns
 returns c =
@@ -28,4 +19,5 @@ returns c =
     kept (digitsOf b) (field b - c .args .low) (omega arith) (omega arith)
 
 pub moved-spec : {M : Type 1} → statement M
-moved-spec = tie.close (tie.spec add-result sub-result shl-result returns)
+moved-spec =
+    tie.close (tie.spec (λ c. search needs) (λ c. search needs) (λ c. search needs) returns)

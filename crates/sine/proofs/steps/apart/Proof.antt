@@ -7,15 +7,6 @@ use Rattle.sine.specs.Node.{apart}
 use Rattle.sine.proofs.steps.apart.Statement.{statement}
 use Rattle.sine.proofs.steps.apart.Tie as tie
 
-sub-result : tie.Need-sub-result
-sub-result c = search needs
-
-mul-result : tie.Need-mul-result
-mul-result c = search needs
-
-mul-result-2 : tie.Need-mul-result-2
-mul-result-2 c = search needs
-
 returns : tie.Need-returns
 unfolding apart
 returns c = rw (lt-ltb (c .before .args .n) (c .before .args .c) (omega arith)) refl
@@ -25,4 +16,5 @@ unfolding apart
 returns-2 c = rw (le-ltb (c .before .args .n) (c .before .args .c) (omega arith)) refl
 
 pub apart-spec : {M : Type 1} → statement M
-apart-spec = tie.close (tie.spec sub-result mul-result mul-result-2 returns returns-2)
+apart-spec =
+    tie.close (tie.spec (λ c. search needs) (λ c. search needs) (λ c. search needs) returns returns-2)

@@ -22,9 +22,6 @@ quotient-le w c k s h i p =
 mul-result : tie.Need-mul-result
 mul-result c = omega (arith, product-le (c .args .w) (c .args .c) (c .pre .0) (c .pre .2))
 
-div-result : tie.Need-div-result
-div-result c = search needs
-
 sub-result : tie.Need-sub-result
 sub-result c = quotient-le (c .args .w) (c .args .c) (c .args .k) (c .args .s) (c .pre .0) (c .pre .3) (c .pre .4)
 
@@ -40,4 +37,5 @@ unfolding bend
 returns c = refl
 
 pub bend-spec : {M : Type 1} → statement M
-bend-spec = tie.close (tie.spec mul-result div-result sub-result mul-result-2 returns)
+bend-spec =
+    tie.close (tie.spec mul-result (λ c. search needs) sub-result mul-result-2 returns)

@@ -58,9 +58,6 @@ int-to-float-y c =
     let r = c .before .pre in
     subst (λ (z : ℤ). T (inFloat binary64 z)) (sym (stored-is k (r .0) (r .1))) (difference-exact k (r .0) (r .1))
 
-pick-requires : tie.Need-pick-requires
-pick-requires c κs = search needs
-
 returns : tie.Need-returns
 unfolding floated
 returns c =
@@ -69,4 +66,5 @@ returns c =
     c .pick .ensures ∙ rw (stored-is k (r .0) (r .1)) (floated-flip k (c .before .before .args .flip))
 
 pub float-spec : {M : Type 1} → statement M
-float-spec = tie.close (tie.spec cast-y sub-y int-to-float-y pick-requires returns)
+float-spec =
+    tie.close (tie.spec cast-y sub-y int-to-float-y (λ c κs. search needs) returns)

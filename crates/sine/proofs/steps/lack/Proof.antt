@@ -7,9 +7,6 @@ use Rattle.sine.proofs.Sizes.{bent-le}
 use Rattle.sine.proofs.steps.lack.Statement.{statement}
 use Rattle.sine.proofs.steps.lack.Tie as tie
 
-bend-requires : tie.Need-bend-requires
-bend-requires c κs = search needs
-
 mul-result : tie.Need-mul-result
 mul-result c =
     let w = c .before .args .z / 268435456 in
@@ -27,4 +24,5 @@ unfolding lack
 returns c = simp (c .bend .ensures)
 
 pub lack-spec : {M : Type 1} → statement M
-lack-spec = tie.close (tie.spec bend-requires mul-result sub-result returns)
+lack-spec =
+    tie.close (tie.spec (λ c κs. search needs) mul-result sub-result returns)

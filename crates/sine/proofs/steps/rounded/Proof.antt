@@ -5,12 +5,10 @@ use Rattle.sine.specs.Rule.{rounded}
 use Rattle.sine.proofs.steps.rounded.Statement.{statement}
 use Rattle.sine.proofs.steps.rounded.Tie as tie
 
-add-result : tie.Need-add-result
-add-result c = search needs
-
 returns : tie.Need-returns
 unfolding rounded
 returns c = refl
 
 pub rounded-spec : {M : Type 1} → statement M
-rounded-spec = tie.close (tie.spec add-result returns)
+rounded-spec =
+    tie.close (tie.spec (λ c. search needs) returns)

@@ -8,9 +8,6 @@ use Rattle.sine.proofs.Sizes.{lack-le}
 use Rattle.sine.proofs.steps.short_sine.Statement.{statement}
 use Rattle.sine.proofs.steps.short_sine.Tie as tie
 
-lack-requires : tie.Need-lack-requires
-lack-requires c κs = search needs
-
 high-requires : tie.Need-high-requires
 high-requires c κs = omega (arith, lack-le (c .before .args .z) (c .before .pre .1))
 
@@ -27,4 +24,5 @@ unfolding shortSine
 returns c = cc
 
 pub short-sine-spec : {M : Type 1} → statement M
-short-sine-spec = tie.close (tie.spec lack-requires high-requires sub-result returns)
+short-sine-spec =
+    tie.close (tie.spec (λ c κs. search needs) high-requires sub-result returns)

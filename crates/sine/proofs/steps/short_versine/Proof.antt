@@ -7,9 +7,6 @@ use Rattle.sine.proofs.Sizes.{bent-le}
 use Rattle.sine.proofs.steps.short_versine.Statement.{statement}
 use Rattle.sine.proofs.steps.short_versine.Tie as tie
 
-bend-requires : tie.Need-bend-requires
-bend-requires c κs = search needs
-
 mul-result : tie.Need-mul-result
 mul-result c =
     let w = c .before .args .z / 268435456 in
@@ -27,4 +24,5 @@ unfolding shortVersine
 returns c = simp (c .bend .ensures)
 
 pub short-versine-spec : {M : Type 1} → statement M
-short-versine-spec = tie.close (tie.spec bend-requires mul-result sub-result returns)
+short-versine-spec =
+    tie.close (tie.spec (λ c κs. search needs) mul-result sub-result returns)
