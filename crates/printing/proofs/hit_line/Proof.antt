@@ -1,3 +1,4 @@
+-- `hit_line` meets its contract. Each part has a longest length, so that the next begins within the room. Assumes nothing.
 use native.Mathlib.Omega.{arith}
 use Rattle.digits.proofs.Spliced.{put-then}
 use Rattle.printing.specs.Printed.{hitLine}

@@ -1,3 +1,4 @@
+-- `put_byte` meets its contract: one byte spliced in is one that is set. Assumes nothing.
 use Rattle.digits.proofs.Spliced.{put-one}
 use borrow.Author.Needs.{needs}
 use Rattle.printing.proofs.put_byte.Statement.{statement}

@@ -1,3 +1,4 @@
+-- `put_count` meets its contract: a tab, then the decimal digits. Assumes nothing.
 use native.Mathlib.Omega.{arith}
 use Rattle.digits.proofs.Spliced.{put-then}
 use Rattle.printing.specs.Printed.{count}

@@ -1,3 +1,4 @@
+-- `put_head` meets its contract: a letter, then a count. Assumes nothing.
 use native.Mathlib.Omega.{arith}
 use Rattle.digits.proofs.Spliced.{put-then}
 use Rattle.printing.specs.Printed.{head}

@@ -1,3 +1,4 @@
+-- `put_number` meets its contract: a tab, then the 16 digits of the bits. Assumes nothing.
 use native.Mathlib.Omega.{arith}
 use Rattle.digits.proofs.Spliced.{put-then}
 use Rattle.printing.specs.Printed.{number}

@@ -1,3 +1,4 @@
+-- `put_numbers` meets its contract: four numbers, one after the other. Assumes nothing.
 use native.Mathlib.Omega.{arith}
 use Rattle.digits.proofs.Spliced.{put-then}
 use Rattle.printing.proofs.Lines.{within, number-length}
