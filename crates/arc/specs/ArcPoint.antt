@@ -1,7 +1,7 @@
 -- 002, `Arc::point_at`, `tangent_at`, `start_pos`, `end_pos`: a point, a tangent and the ends of an arc are those of its ellipse. Definitions only. Assumes nothing.
 use lib.Ieee.{Float}
-use Rattle.arc.specs.declared.Point.{Point}
-use Rattle.arc.specs.declared.Arc.{Arc}
+use Rattle.curves.specs.declared.Point.{Point}
+use Rattle.curves.specs.declared.Arc.{Arc}
 use Rattle.arc.specs.Ellipse.{ellipsePoint, ellipseTangent}
 
 abbrev pub arcPointAt : Arc → Float → Point

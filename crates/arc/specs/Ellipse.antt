@@ -3,7 +3,7 @@
 use lib.Ieee.{Float, neg}
 use Rattle.laws.specs.Rounded.{_⊕_, _⊖_, _⊗_}
 use Rattle.sine.specs.Rule.{sine, cosine}
-use Rattle.arc.specs.declared.Point.{Point}
+use Rattle.curves.specs.declared.Point.{Point}
 
 -- sr and cr are the rotation's sine and cosine, st and ct the angle's
 abbrev pub turnPoint : Point → Float → Float → Float → Float → Float → Float → Point

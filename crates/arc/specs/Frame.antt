@@ -7,9 +7,9 @@ use Rattle.laws.specs.Literal.{ten⁻¹²}
 use Rattle.scalar.specs.Extremes.{maximum}
 use Rattle.sine.specs.Rule.{sine, cosine}
 use Rattle.arctan.specs.Rule.{arctangent}
-use Rattle.arc.specs.declared.Point.{Point}
-use Rattle.arc.specs.declared.Arc.{Arc}
-use Rattle.arc.specs.declared.Radii.{Radii}
+use Rattle.curves.specs.declared.Point.{Point}
+use Rattle.curves.specs.declared.Arc.{Arc}
+use Rattle.curves.specs.declared.Radii.{Radii}
 
 unfoldable pub arcRadii : Arc → Radii
 arcRadii arc = cond (arc .«is_ellipse») (record { a = arc .radius; b = arc .«radius_b» }) (record { a = arc .radius; b = arc .radius })

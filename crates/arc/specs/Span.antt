@@ -5,7 +5,7 @@ use lib.Ieee.{Float, binary64, rem, lt, le}
 use Rattle.laws.specs.Rounded.{_⊕_, _⊖_}
 use Rattle.laws.specs.Literal.{zero, ten⁻⁹}
 use Rattle.scalar.specs.Angles.{tau}
-use Rattle.arc.specs.declared.Arc.{Arc}
+use Rattle.curves.specs.declared.Arc.{Arc}
 use Rattle.arc.specs.declared.InSpan.{InSpan}
 use Rattle.arc.specs.declared.InSpan.the-variants.{At, Outside}
 

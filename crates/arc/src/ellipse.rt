@@ -2,8 +2,8 @@
 ghost use mathlib.Core.Path.{_≡_};
 ghost use Rattle.arc.specs.Ellipse.{turnPoint, ellipsePoint, ellipseTangent};
 ghost use Rattle.arc.specs.ArcPoint.{arcPointAt, arcTangentAt, arcStartPos, arcEndPos};
-use crate::Arc;
-use crate::Point;
+use curves::Arc;
+use curves::Point;
 use sine::SinCos;
 
 // The point at the angle whose sine and cosine are `at`, of an ellipse turned by that of `rot`. The hunt works

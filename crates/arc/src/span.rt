@@ -2,10 +2,10 @@
 ghost use mathlib.Core.Path.{_≡_};
 ghost use Rattle.arc.specs.Span.{normTau, within, arcParamInSpan};
 ghost use Rattle.arc.specs.Frame.{arcRadii, toUnit, arcThetaOfPos, arcParamAtPoint};
-use crate::Arc;
 use crate::InSpan;
-use crate::Point;
-use crate::Radii;
+use curves::Arc;
+use curves::Point;
+use curves::Radii;
 use scalar::TAU;
 use sine::SinCos;
 

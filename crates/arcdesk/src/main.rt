@@ -66,7 +66,7 @@ fn least(a: usize, b: usize) -> usize
 
 // The line at hand is whole: its answer is printed.
 fn answer(table: Table, number: u64, line: &[u8], room: &mut [f64], out: &mut [u8]) -> Table {
-    let a = desk::answer(table, number, lines::read(line), room, out);
+    let a = desk::answer(table, number, desk_line::read(line), room, out);
     let n = least(a.printed, out.len());
     io::write_all(STDOUT_FILENO, &out[..n]);
     let after = a.table;

@@ -1,10 +1,10 @@
 // Crossings in closed form, and a single hit: the hits go to one lent room, the count to another.
 ghost use Rattle.hits.specs.Hit.{hitPart};
-ghost use Rattle.queries.specs.Curves.{at};
-ghost use Rattle.queries.specs.Asked.{segmentsAsked, segmentArcAsked};
-ghost use Rattle.lent.specs.Lent.{lentArc};
-ghost use Rattle.lent.specs.Exported.{HitsOut, HitOut};
-use arc::Point;
+ghost use Rattle.curves.specs.At.{at};
+ghost use Rattle.calls_crossings.specs.Answers.{segmentsAnswer, segmentArcAnswer};
+ghost use Rattle.export_numbers.specs.Lent.{lentArc};
+ghost use Rattle.export_numbers.specs.Exported.{HitsOut, HitOut};
+use curves::Point;
 
 #[no_mangle]
 pub extern "C" fn arcs_intersect_segments(
@@ -19,7 +19,7 @@ pub extern "C" fn arcs_intersect_segments(
     room: &mut [f64],
     counts: &mut [u64],
 ) -> u32
-    ensures { λ r. ⌜ HitsOut (segmentsAsked (at ax1 ay1) (at ax2 ay2) (at bx1 by1) (at bx2 by2)) (now (room .entry)) (now (counts .entry)) r (now (room .exit)) (now (counts .exit)) ⌝ }
+    ensures { λ r. ⌜ HitsOut (segmentsAnswer (at ax1 ay1) (at ax2 ay2) (at bx1 by1) (at bx2 by2)) (now (room .entry)) (now (counts .entry)) r (now (room .exit)) (now (counts .exit)) ⌝ }
 {
     let a1 = Point { x: ax1, y: ay1 };
     let a2 = Point { x: ax2, y: ay2 };
@@ -28,11 +28,11 @@ pub extern "C" fn arcs_intersect_segments(
     if counts.len() < 1 {
         // The library refuses a room of one number, after its other refusals.
         let mut one = [0.0; 1];
-        return lent::found_refusal(arcs::intersect_segments(a1, a2, b1, b2, &mut one));
+        return export_numbers::found_refusal(arcs::intersect_segments(a1, a2, b1, b2, &mut one));
     }
     let f = arcs::intersect_segments(a1, a2, b1, b2, room);
-    lent::count_found(f, counts);
-    lent::found_refusal(f)
+    export_numbers::count_found(f, counts);
+    export_numbers::found_refusal(f)
 }
 
 #[no_mangle]
@@ -46,18 +46,18 @@ pub extern "C" fn arcs_intersect_segment_arc(
     room: &mut [f64],
     counts: &mut [u64],
 ) -> u32
-    ensures { λ r. ⌜ HitsOut (segmentArcAsked (at x1 y1) (at x2 y2) (lentArc (now (a .entry)) «a_marks»)) (now (room .entry)) (now (counts .entry)) r (now (room .exit)) (now (counts .exit)) ⌝ }
+    ensures { λ r. ⌜ HitsOut (segmentArcAnswer (at x1 y1) (at x2 y2) (lentArc (now (a .entry)) «a_marks»)) (now (room .entry)) (now (counts .entry)) r (now (room .exit)) (now (counts .exit)) ⌝ }
 {
     let p1 = Point { x: x1, y: y1 };
     let p2 = Point { x: x2, y: y2 };
-    let q = lent::arc(a, a_marks);
+    let q = export_numbers::arc(a, a_marks);
     if counts.len() < 1 {
         let mut one = [0.0; 1];
-        return lent::found_refusal(arcs::intersect_segment_arc(p1, p2, q, &mut one));
+        return export_numbers::found_refusal(arcs::intersect_segment_arc(p1, p2, q, &mut one));
     }
     let f = arcs::intersect_segment_arc(p1, p2, q, room);
-    lent::count_found(f, counts);
-    lent::found_refusal(f)
+    export_numbers::count_found(f, counts);
+    export_numbers::found_refusal(f)
 }
 
 // The four numbers of the hit i of so many to `out`, and to `counts` how many they are: 4, or 0 where there is no such hit.
@@ -78,7 +78,7 @@ pub extern "C" fn arcs_hit(
         return 4;
     }
     let part = arcs::hit(room, count, i);
-    lent::place(part, out);
+    export_numbers::place(part, out);
     counts[0] = part.len() as u64;
     0
 }

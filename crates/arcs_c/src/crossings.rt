@@ -1,7 +1,8 @@
 // Crossings: the hits go to one lent room, the counts to another.
-ghost use Rattle.queries.specs.Asked.{arcsAsked, curvesAsked};
-ghost use Rattle.lent.specs.Lent.{lentArc, lentCurve};
-ghost use Rattle.lent.specs.Exported.{HitsOut};
+ghost use Rattle.calls_crossings.specs.Answers.{arcsAnswer};
+ghost use Rattle.calls_curves.specs.Curves.{curvesAnswer};
+ghost use Rattle.export_numbers.specs.Lent.{lentArc, lentCurve};
+ghost use Rattle.export_numbers.specs.Exported.{HitsOut};
 
 // Hits, brackets, the brackets outside a, outside b and double, and the evaluations go to `counts`.
 #[no_mangle]
@@ -14,19 +15,19 @@ pub extern "C" fn arcs_intersect_arcs(
     room: &mut [f64],
     counts: &mut [u64],
 ) -> u32
-    ensures { λ r. ⌜ HitsOut (arcsAsked (lentArc (now (a .entry)) «a_marks») (lentArc (now (b .entry)) «b_marks») depth)
+    ensures { λ r. ⌜ HitsOut (arcsAnswer (lentArc (now (a .entry)) «a_marks») (lentArc (now (b .entry)) «b_marks») depth)
         (now (room .entry)) (now (counts .entry)) r (now (room .exit)) (now (counts .exit)) ⌝ }
 {
-    let p = lent::arc(a, a_marks);
-    let q = lent::arc(b, b_marks);
+    let p = export_numbers::arc(a, a_marks);
+    let q = export_numbers::arc(b, b_marks);
     if counts.len() < 6 {
         // The library refuses a room of one number, after its other refusals.
         let mut one = [0.0; 1];
-        return lent::hunted_refusal(arcs::intersect_arcs(p, q, depth, &mut one));
+        return export_numbers::hunted_refusal(arcs::intersect_arcs(p, q, depth, &mut one));
     }
     let h = arcs::intersect_arcs(p, q, depth, room);
-    lent::count_hunted(h, counts);
-    lent::hunted_refusal(h)
+    export_numbers::count_hunted(h, counts);
+    export_numbers::hunted_refusal(h)
 }
 
 // The same counts; all but the hits are 0 where nothing is sampled.
@@ -40,16 +41,16 @@ pub extern "C" fn arcs_intersect(
     room: &mut [f64],
     counts: &mut [u64],
 ) -> u32
-    ensures { λ r. ⌜ HitsOut (curvesAsked (lentCurve (now (a .entry)) «a_marks») (lentCurve (now (b .entry)) «b_marks») depth)
+    ensures { λ r. ⌜ HitsOut (curvesAnswer (lentCurve (now (a .entry)) «a_marks») (lentCurve (now (b .entry)) «b_marks») depth)
         (now (room .entry)) (now (counts .entry)) r (now (room .exit)) (now (counts .exit)) ⌝ }
 {
-    let p = lent::curve(a, a_marks);
-    let q = lent::curve(b, b_marks);
+    let p = export_numbers::curve(a, a_marks);
+    let q = export_numbers::curve(b, b_marks);
     if counts.len() < 6 {
         let mut one = [0.0; 1];
-        return lent::hunted_refusal(arcs::intersect(p, q, depth, &mut one));
+        return export_numbers::hunted_refusal(arcs::intersect(p, q, depth, &mut one));
     }
     let h = arcs::intersect(p, q, depth, room);
-    lent::count_hunted(h, counts);
-    lent::hunted_refusal(h)
+    export_numbers::count_hunted(h, counts);
+    export_numbers::hunted_refusal(h)
 }

@@ -1,11 +1,11 @@
 // Distances to arcs, arcs and circles from points: the library's answer goes to `out`, the refusal's number is given back.
 ghost use mathlib.Core.Bool.{not};
 ghost use lib.Dec.{eqb};
-ghost use Rattle.shapes.specs.Told.{pointToArcDistTold, svgArcToCenterTold, circumscribedArcTold, circleTangentThroughTold, fitEarcTangentTold};
-ghost use Rattle.queries.specs.Curves.{at};
-ghost use Rattle.lent.specs.Lent.{lentArc};
-ghost use Rattle.lent.specs.Exported.{NumbersOut};
-use arc::Point;
+ghost use Rattle.calls_shapes.specs.Answers.{pointToArcDistAnswer, svgArcToCenterAnswer, circumscribedArcAnswer, circleTangentThroughAnswer, fitEarcTangentAnswer};
+ghost use Rattle.curves.specs.At.{at};
+ghost use Rattle.export_numbers.specs.Lent.{lentArc};
+ghost use Rattle.export_numbers.specs.Exported.{NumbersOut};
+use curves::Point;
 
 #[no_mangle]
 pub extern "C" fn arcs_point_to_arc_dist(
@@ -15,10 +15,10 @@ pub extern "C" fn arcs_point_to_arc_dist(
     a_marks: u32,
     out: &mut [f64],
 ) -> u32
-    ensures { λ r. ⌜ NumbersOut 3 (pointToArcDistTold (at px py) (lentArc (now (a .entry)) «a_marks»)) (now (out .entry)) r (now (out .exit)) ⌝ }
+    ensures { λ r. ⌜ NumbersOut 3 (pointToArcDistAnswer (at px py) (lentArc (now (a .entry)) «a_marks»)) (now (out .entry)) r (now (out .exit)) ⌝ }
 {
-    let told = arcs::point_to_arc_dist(Point { x: px, y: py }, lent::arc(a, a_marks));
-    lent::give_distance(told, out)
+    let told = arcs::point_to_arc_dist(Point { x: px, y: py }, export_numbers::arc(a, a_marks));
+    export_numbers::write_distance(told, out)
 }
 
 // A flag is set where it is not 0.
@@ -35,7 +35,7 @@ pub extern "C" fn arcs_svg_arc_to_center(
     sweep: u32,
     out: &mut [f64],
 ) -> u32
-    ensures { λ r. ⌜ NumbersOut 6 (svgArcToCenterTold (at x1 y1) (at x2 y2) rx ry rotation (not (eqb «large_arc» 0)) (not (eqb sweep 0))) (now (out .entry)) r (now (out .exit)) ⌝ }
+    ensures { λ r. ⌜ NumbersOut 6 (svgArcToCenterAnswer (at x1 y1) (at x2 y2) rx ry rotation (not (eqb «large_arc» 0)) (not (eqb sweep 0))) (now (out .entry)) r (now (out .exit)) ⌝ }
 {
     let told = arcs::svg_arc_to_center(
         Point { x: x1, y: y1 },
@@ -46,7 +46,7 @@ pub extern "C" fn arcs_svg_arc_to_center(
         large_arc != 0,
         sweep != 0,
     );
-    lent::give_center(told, out)
+    export_numbers::write_center(told, out)
 }
 
 #[no_mangle]
@@ -59,14 +59,14 @@ pub extern "C" fn arcs_circumscribed_arc(
     y3: f64,
     out: &mut [f64],
 ) -> u32
-    ensures { λ r. ⌜ NumbersOut 6 (circumscribedArcTold (at x1 y1) (at x2 y2) (at x3 y3)) (now (out .entry)) r (now (out .exit)) ⌝ }
+    ensures { λ r. ⌜ NumbersOut 6 (circumscribedArcAnswer (at x1 y1) (at x2 y2) (at x3 y3)) (now (out .entry)) r (now (out .exit)) ⌝ }
 {
     let told = arcs::circumscribed_arc(
         Point { x: x1, y: y1 },
         Point { x: x2, y: y2 },
         Point { x: x3, y: y3 },
     );
-    lent::give_through(told, out)
+    export_numbers::write_through(told, out)
 }
 
 // (tx, ty) is a direction.
@@ -80,14 +80,14 @@ pub extern "C" fn arcs_circle_tangent_through(
     ty: f64,
     out: &mut [f64],
 ) -> u32
-    ensures { λ r. ⌜ NumbersOut 3 (circleTangentThroughTold (at sx sy) (at ex ey) (at tx ty)) (now (out .entry)) r (now (out .exit)) ⌝ }
+    ensures { λ r. ⌜ NumbersOut 3 (circleTangentThroughAnswer (at sx sy) (at ex ey) (at tx ty)) (now (out .entry)) r (now (out .exit)) ⌝ }
 {
     let told = arcs::circle_tangent_through(
         Point { x: sx, y: sy },
         Point { x: ex, y: ey },
         Point { x: tx, y: ty },
     );
-    lent::give_tangent(told, out)
+    export_numbers::write_tangent(told, out)
 }
 
 // (tx1, ty1) and (tx2, ty2) are directions.
@@ -104,7 +104,7 @@ pub extern "C" fn arcs_fit_earc_tangent(
     bulge: f64,
     out: &mut [f64],
 ) -> u32
-    ensures { λ r. ⌜ NumbersOut 8 (fitEarcTangentTold (at x1 y1) (at tx1 ty1) (at x2 y2) (at tx2 ty2) bulge) (now (out .entry)) r (now (out .exit)) ⌝ }
+    ensures { λ r. ⌜ NumbersOut 8 (fitEarcTangentAnswer (at x1 y1) (at tx1 ty1) (at x2 y2) (at tx2 ty2) bulge) (now (out .entry)) r (now (out .exit)) ⌝ }
 {
     let told = arcs::fit_earc_tangent(
         Point { x: x1, y: y1 },
@@ -113,5 +113,5 @@ pub extern "C" fn arcs_fit_earc_tangent(
         Point { x: tx2, y: ty2 },
         bulge,
     );
-    lent::give_fitted(told, out)
+    export_numbers::write_fitted(told, out)
 }

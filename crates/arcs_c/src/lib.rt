@@ -11,7 +11,7 @@ ghost use Rattle.root.specs.SquareRoot.{squareRoot};
 ghost use Rattle.sine.specs.Rule.{sine, cosine};
 ghost use Rattle.arctan.specs.Rule.{arctangent};
 ghost use Rattle.arccos.specs.Arccos.{arccosine};
-ghost use Rattle.lent.specs.Exported.{NumbersGiven};
+ghost use Rattle.export_numbers.specs.Exported.{NumbersWritten};
 pub use closed::arcs_hit;
 pub use closed::arcs_intersect_segment_arc;
 pub use closed::arcs_intersect_segments;
@@ -62,10 +62,10 @@ pub extern "C" fn arcs_cos(x: f64) -> f64
 // The sine and the cosine to the first two numbers of `out`. Gives 0, or 4 where they do not fit, and then changes nothing.
 #[no_mangle]
 pub extern "C" fn arcs_sin_cos(x: f64, out: &mut [f64]) -> u32
-    ensures { λ r. ⌜ NumbersGiven 2 0 (sine x ∷ cosine x ∷ []) (now (out .entry)) r (now (out .exit)) ⌝ }
+    ensures { λ r. ⌜ NumbersWritten 2 0 (sine x ∷ cosine x ∷ []) (now (out .entry)) r (now (out .exit)) ⌝ }
 {
     let both = sine::sin_cos(x);
-    lent::give(&[both.sin, both.cos], out)
+    export_numbers::write(&[both.sin, both.cos], out)
 }
 
 #[no_mangle]

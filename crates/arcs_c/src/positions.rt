@@ -1,10 +1,10 @@
 // Points, tangents and lines: the library's answer goes to `out`, the refusal's number is given back.
-ghost use Rattle.points.specs.Told.{ellipsePointTold, ellipseTangentTold, arcPointAtTold, arcTangentAtTold, arcStartPosTold, arcEndPosTold};
-ghost use Rattle.points.specs.Told.{pointToSegmentDistTold, projectOntoSegmentTold, lineLineIntersectionTold};
-ghost use Rattle.queries.specs.Curves.{at};
-ghost use Rattle.lent.specs.Lent.{lentArc};
-ghost use Rattle.lent.specs.Exported.{NumbersOut};
-use arc::Point;
+ghost use Rattle.calls_points.specs.Answers.{ellipsePointAnswer, ellipseTangentAnswer, arcPointAtAnswer, arcTangentAtAnswer, arcStartPosAnswer, arcEndPosAnswer};
+ghost use Rattle.calls_points.specs.Answers.{pointToSegmentDistAnswer, projectOntoSegmentAnswer, lineLineIntersectionAnswer};
+ghost use Rattle.curves.specs.At.{at};
+ghost use Rattle.export_numbers.specs.Lent.{lentArc};
+ghost use Rattle.export_numbers.specs.Exported.{NumbersOut};
+use curves::Point;
 
 #[no_mangle]
 pub extern "C" fn arcs_ellipse_point(
@@ -16,45 +16,48 @@ pub extern "C" fn arcs_ellipse_point(
     t: f64,
     out: &mut [f64],
 ) -> u32
-    ensures { λ r. ⌜ NumbersOut 2 (ellipsePointTold (at cx cy) rx ry rot t) (now (out .entry)) r (now (out .exit)) ⌝ }
+    ensures { λ r. ⌜ NumbersOut 2 (ellipsePointAnswer (at cx cy) rx ry rot t) (now (out .entry)) r (now (out .exit)) ⌝ }
 {
     let told = arcs::ellipse_point(Point { x: cx, y: cy }, rx, ry, rot, t);
-    lent::give_pair(told, out)
+    export_numbers::write_pair(told, out)
 }
 
 #[no_mangle]
 pub extern "C" fn arcs_ellipse_tangent(rx: f64, ry: f64, rot: f64, t: f64, out: &mut [f64]) -> u32
-    ensures { λ r. ⌜ NumbersOut 2 (ellipseTangentTold rx ry rot t) (now (out .entry)) r (now (out .exit)) ⌝ }
+    ensures { λ r. ⌜ NumbersOut 2 (ellipseTangentAnswer rx ry rot t) (now (out .entry)) r (now (out .exit)) ⌝ }
 {
-    lent::give_pair(arcs::ellipse_tangent(rx, ry, rot, t), out)
+    export_numbers::write_pair(arcs::ellipse_tangent(rx, ry, rot, t), out)
 }
 
 #[no_mangle]
 pub extern "C" fn arcs_arc_point_at(a: &[f64], a_marks: u32, t: f64, out: &mut [f64]) -> u32
-    ensures { λ r. ⌜ NumbersOut 2 (arcPointAtTold (lentArc (now (a .entry)) «a_marks») t) (now (out .entry)) r (now (out .exit)) ⌝ }
+    ensures { λ r. ⌜ NumbersOut 2 (arcPointAtAnswer (lentArc (now (a .entry)) «a_marks») t) (now (out .entry)) r (now (out .exit)) ⌝ }
 {
-    lent::give_pair(arcs::arc_point_at(lent::arc(a, a_marks), t), out)
+    export_numbers::write_pair(arcs::arc_point_at(export_numbers::arc(a, a_marks), t), out)
 }
 
 #[no_mangle]
 pub extern "C" fn arcs_arc_tangent_at(a: &[f64], a_marks: u32, t: f64, out: &mut [f64]) -> u32
-    ensures { λ r. ⌜ NumbersOut 2 (arcTangentAtTold (lentArc (now (a .entry)) «a_marks») t) (now (out .entry)) r (now (out .exit)) ⌝ }
+    ensures { λ r. ⌜ NumbersOut 2 (arcTangentAtAnswer (lentArc (now (a .entry)) «a_marks») t) (now (out .entry)) r (now (out .exit)) ⌝ }
 {
-    lent::give_pair(arcs::arc_tangent_at(lent::arc(a, a_marks), t), out)
+    export_numbers::write_pair(
+        arcs::arc_tangent_at(export_numbers::arc(a, a_marks), t),
+        out,
+    )
 }
 
 #[no_mangle]
 pub extern "C" fn arcs_arc_start_pos(a: &[f64], a_marks: u32, out: &mut [f64]) -> u32
-    ensures { λ r. ⌜ NumbersOut 2 (arcStartPosTold (lentArc (now (a .entry)) «a_marks»)) (now (out .entry)) r (now (out .exit)) ⌝ }
+    ensures { λ r. ⌜ NumbersOut 2 (arcStartPosAnswer (lentArc (now (a .entry)) «a_marks»)) (now (out .entry)) r (now (out .exit)) ⌝ }
 {
-    lent::give_pair(arcs::arc_start_pos(lent::arc(a, a_marks)), out)
+    export_numbers::write_pair(arcs::arc_start_pos(export_numbers::arc(a, a_marks)), out)
 }
 
 #[no_mangle]
 pub extern "C" fn arcs_arc_end_pos(a: &[f64], a_marks: u32, out: &mut [f64]) -> u32
-    ensures { λ r. ⌜ NumbersOut 2 (arcEndPosTold (lentArc (now (a .entry)) «a_marks»)) (now (out .entry)) r (now (out .exit)) ⌝ }
+    ensures { λ r. ⌜ NumbersOut 2 (arcEndPosAnswer (lentArc (now (a .entry)) «a_marks»)) (now (out .entry)) r (now (out .exit)) ⌝ }
 {
-    lent::give_pair(arcs::arc_end_pos(lent::arc(a, a_marks)), out)
+    export_numbers::write_pair(arcs::arc_end_pos(export_numbers::arc(a, a_marks)), out)
 }
 
 #[no_mangle]
@@ -67,14 +70,14 @@ pub extern "C" fn arcs_point_to_segment_dist(
     by: f64,
     out: &mut [f64],
 ) -> u32
-    ensures { λ r. ⌜ NumbersOut 1 (pointToSegmentDistTold (at px py) (at ax ay) (at bx by)) (now (out .entry)) r (now (out .exit)) ⌝ }
+    ensures { λ r. ⌜ NumbersOut 1 (pointToSegmentDistAnswer (at px py) (at ax ay) (at bx by)) (now (out .entry)) r (now (out .exit)) ⌝ }
 {
     let told = arcs::point_to_segment_dist(
         Point { x: px, y: py },
         Point { x: ax, y: ay },
         Point { x: bx, y: by },
     );
-    lent::give_number(told, out)
+    export_numbers::write_number(told, out)
 }
 
 #[no_mangle]
@@ -87,14 +90,14 @@ pub extern "C" fn arcs_project_onto_segment(
     by: f64,
     out: &mut [f64],
 ) -> u32
-    ensures { λ r. ⌜ NumbersOut 2 (projectOntoSegmentTold (at px py) (at ax ay) (at bx by)) (now (out .entry)) r (now (out .exit)) ⌝ }
+    ensures { λ r. ⌜ NumbersOut 2 (projectOntoSegmentAnswer (at px py) (at ax ay) (at bx by)) (now (out .entry)) r (now (out .exit)) ⌝ }
 {
     let told = arcs::project_onto_segment(
         Point { x: px, y: py },
         Point { x: ax, y: ay },
         Point { x: bx, y: by },
     );
-    lent::give_pair(told, out)
+    export_numbers::write_pair(told, out)
 }
 
 #[no_mangle]
@@ -109,7 +112,7 @@ pub extern "C" fn arcs_line_line_intersection(
     y4: f64,
     out: &mut [f64],
 ) -> u32
-    ensures { λ r. ⌜ NumbersOut 2 (lineLineIntersectionTold (at x1 y1) (at x2 y2) (at x3 y3) (at x4 y4)) (now (out .entry)) r (now (out .exit)) ⌝ }
+    ensures { λ r. ⌜ NumbersOut 2 (lineLineIntersectionAnswer (at x1 y1) (at x2 y2) (at x3 y3) (at x4 y4)) (now (out .entry)) r (now (out .exit)) ⌝ }
 {
     let told = arcs::line_line_intersection(
         Point { x: x1, y: y1 },
@@ -117,5 +120,5 @@ pub extern "C" fn arcs_line_line_intersection(
         Point { x: x3, y: y3 },
         Point { x: x4, y: y4 },
     );
-    lent::give_pair(told, out)
+    export_numbers::write_pair(told, out)
 }

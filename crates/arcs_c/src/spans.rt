@@ -1,16 +1,16 @@
 // Spans and parameters: the library's answer goes to `out`, the refusal's number is given back.
-ghost use Rattle.points.specs.Told.{normTauTold, arcParamInSpanTold, arcRadiiTold, arcThetaOfPosTold, arcParamAtPointTold};
-ghost use Rattle.shapes.specs.Told.{nearestArcParamTold};
-ghost use Rattle.queries.specs.Curves.{at};
-ghost use Rattle.lent.specs.Lent.{lentArc};
-ghost use Rattle.lent.specs.Exported.{NumbersOut};
-use arc::Point;
+ghost use Rattle.calls_points.specs.Answers.{normTauAnswer, arcParamInSpanAnswer, arcRadiiAnswer, arcThetaOfPosAnswer, arcParamAtPointAnswer};
+ghost use Rattle.calls_shapes.specs.Answers.{nearestArcParamAnswer};
+ghost use Rattle.curves.specs.At.{at};
+ghost use Rattle.export_numbers.specs.Lent.{lentArc};
+ghost use Rattle.export_numbers.specs.Exported.{NumbersOut};
+use curves::Point;
 
 #[no_mangle]
 pub extern "C" fn arcs_norm_tau(v: f64, out: &mut [f64]) -> u32
-    ensures { λ r. ⌜ NumbersOut 1 (normTauTold v) (now (out .entry)) r (now (out .exit)) ⌝ }
+    ensures { λ r. ⌜ NumbersOut 1 (normTauAnswer v) (now (out .entry)) r (now (out .exit)) ⌝ }
 {
-    lent::give_number(arcs::norm_tau(v), out)
+    export_numbers::write_number(arcs::norm_tau(v), out)
 }
 
 #[no_mangle]
@@ -20,16 +20,19 @@ pub extern "C" fn arcs_arc_param_in_span(
     theta: f64,
     out: &mut [f64],
 ) -> u32
-    ensures { λ r. ⌜ NumbersOut 1 (arcParamInSpanTold (lentArc (now (a .entry)) «a_marks») theta) (now (out .entry)) r (now (out .exit)) ⌝ }
+    ensures { λ r. ⌜ NumbersOut 1 (arcParamInSpanAnswer (lentArc (now (a .entry)) «a_marks») theta) (now (out .entry)) r (now (out .exit)) ⌝ }
 {
-    lent::give_number(arcs::arc_param_in_span(lent::arc(a, a_marks), theta), out)
+    export_numbers::write_number(
+        arcs::arc_param_in_span(export_numbers::arc(a, a_marks), theta),
+        out,
+    )
 }
 
 #[no_mangle]
 pub extern "C" fn arcs_arc_radii(a: &[f64], a_marks: u32, out: &mut [f64]) -> u32
-    ensures { λ r. ⌜ NumbersOut 2 (arcRadiiTold (lentArc (now (a .entry)) «a_marks»)) (now (out .entry)) r (now (out .exit)) ⌝ }
+    ensures { λ r. ⌜ NumbersOut 2 (arcRadiiAnswer (lentArc (now (a .entry)) «a_marks»)) (now (out .entry)) r (now (out .exit)) ⌝ }
 {
-    lent::give_pair(arcs::arc_radii(lent::arc(a, a_marks)), out)
+    export_numbers::write_pair(arcs::arc_radii(export_numbers::arc(a, a_marks)), out)
 }
 
 #[no_mangle]
@@ -40,10 +43,10 @@ pub extern "C" fn arcs_arc_theta_of_pos(
     py: f64,
     out: &mut [f64],
 ) -> u32
-    ensures { λ r. ⌜ NumbersOut 1 (arcThetaOfPosTold (lentArc (now (a .entry)) «a_marks») (at px py)) (now (out .entry)) r (now (out .exit)) ⌝ }
+    ensures { λ r. ⌜ NumbersOut 1 (arcThetaOfPosAnswer (lentArc (now (a .entry)) «a_marks») (at px py)) (now (out .entry)) r (now (out .exit)) ⌝ }
 {
-    let told = arcs::arc_theta_of_pos(lent::arc(a, a_marks), Point { x: px, y: py });
-    lent::give_number(told, out)
+    let told = arcs::arc_theta_of_pos(export_numbers::arc(a, a_marks), Point { x: px, y: py });
+    export_numbers::write_number(told, out)
 }
 
 #[no_mangle]
@@ -54,10 +57,10 @@ pub extern "C" fn arcs_arc_param_at_point(
     py: f64,
     out: &mut [f64],
 ) -> u32
-    ensures { λ r. ⌜ NumbersOut 1 (arcParamAtPointTold (lentArc (now (a .entry)) «a_marks») (at px py)) (now (out .entry)) r (now (out .exit)) ⌝ }
+    ensures { λ r. ⌜ NumbersOut 1 (arcParamAtPointAnswer (lentArc (now (a .entry)) «a_marks») (at px py)) (now (out .entry)) r (now (out .exit)) ⌝ }
 {
-    let told = arcs::arc_param_at_point(lent::arc(a, a_marks), Point { x: px, y: py });
-    lent::give_number(told, out)
+    let told = arcs::arc_param_at_point(export_numbers::arc(a, a_marks), Point { x: px, y: py });
+    export_numbers::write_number(told, out)
 }
 
 #[no_mangle]
@@ -68,8 +71,8 @@ pub extern "C" fn arcs_nearest_arc_param(
     py: f64,
     out: &mut [f64],
 ) -> u32
-    ensures { λ r. ⌜ NumbersOut 1 (nearestArcParamTold (lentArc (now (a .entry)) «a_marks») (at px py)) (now (out .entry)) r (now (out .exit)) ⌝ }
+    ensures { λ r. ⌜ NumbersOut 1 (nearestArcParamAnswer (lentArc (now (a .entry)) «a_marks») (at px py)) (now (out .entry)) r (now (out .exit)) ⌝ }
 {
-    let told = arcs::nearest_arc_param(lent::arc(a, a_marks), Point { x: px, y: py });
-    lent::give_number(told, out)
+    let told = arcs::nearest_arc_param(export_numbers::arc(a, a_marks), Point { x: px, y: py });
+    export_numbers::write_number(told, out)
 }

@@ -5,7 +5,7 @@ use Prim.Native.Nat.{ℕ}
 use native.Mathlib.Omega.{arith}
 use lib.ListN.{length, take, getD}
 use lib.Ieee.{Float}
-use Rattle.hunt.specs.declared.Tally.{Tally}
+use Rattle.hits.specs.declared.Tally.{Tally}
 use Rattle.checks.specs.declared.Number.{Number}
 use Rattle.checks.specs.declared.Number.the-variants as one
 use Rattle.checks.specs.declared.Pair.{Pair}

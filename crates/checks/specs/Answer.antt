@@ -5,7 +5,7 @@ use mathlib.Core.Bool.{cond}
 use mathlib.Core.List.{List, [], _∷_}
 use lib.Dec.{eqb}
 use lib.Ieee.{Float}
-use Rattle.hunt.specs.declared.Tally.{Tally}
+use Rattle.hits.specs.declared.Tally.{Tally}
 use Rattle.checks.specs.declared.Number.{Number}
 use Rattle.checks.specs.declared.Number.the-variants as one
 use Rattle.checks.specs.declared.Pair.{Pair}

@@ -5,8 +5,10 @@ use mathlib.Core.List.{List, [], _∷_, _++_}
 use lib.Ieee.{Float, binary64, lt, ofBits}
 use lib.Ieee.Scale.{finite}
 use Rattle.laws.specs.Size.{abs}
-use Rattle.arc.specs.declared.Point.{Point}
-use Rattle.arc.specs.declared.Arc.{Arc}
+use Rattle.curves.specs.declared.Point.{Point}
+use Rattle.curves.specs.declared.Arc.{Arc}
+use Rattle.curves.specs.declared.Curve.{Curve}
+use Rattle.curves.specs.declared.Curve.the-variants as curve
 use Rattle.checks.specs.declared.Faults.{Faults}
 
 pub data Given : Type 0 where
@@ -34,3 +36,7 @@ point p = coordinate (p .x) ∷ coordinate (p .y) ∷ []
 abbrev pub arcNumbers : Arc → List Given
 arcNumbers a =
     coordinate (a .center .x) ∷ coordinate (a .center .y) ∷ coordinate (a .radius) ∷ coordinate (a .«radius_b») ∷ angle (a .rotation) ∷ angle (a .start) ∷ angle (a .end) ∷ []
+
+abbrev pub curveNumbers : Curve → List Given
+curveNumbers (curve.Segment x1 y1 x2 y2) = coordinate x1 ∷ coordinate y1 ∷ coordinate x2 ∷ coordinate y2 ∷ []
+curveNumbers (curve.Arc a) = arcNumbers a

@@ -3,12 +3,13 @@ ghost use mathlib.Core.Path.{_≡_};
 ghost use mathlib.Core.List.{[], _∷_};
 ghost use lib.Ieee.{inf, lt};
 ghost use mathlib.Core.Bool.{false, not};
-ghost use Rattle.checks.specs.Given.{coordinate, angle, tested, point, arcNumbers};
+ghost use Rattle.checks.specs.Given.{coordinate, angle, tested, point, arcNumbers, curveNumbers};
 ghost use Rattle.checks.specs.Refusal.{refusal, unfaulted};
 ghost use Rattle.checks.specs.Answer.{answered, numberTold, pairTold};
-use arc::Arc;
-use arc::Point;
-use hunt::Tally;
+use curves::Arc;
+use curves::Curve;
+use curves::Point;
+use hits::Tally;
 
 // What the numbers tested so far have shown.
 pub struct Faults {
@@ -72,6 +73,19 @@ pub fn arc(f: Faults, a: Arc) -> Faults
     let c = a.center;
     let radii = coordinate(coordinate(point(f, c), a.radius), a.radius_b);
     angle(angle(angle(radii, a.rotation), a.start), a.end)
+}
+
+// The numbers of a segment's ends or of an arc.
+pub fn curve(f: Faults, c: Curve) -> Faults
+    ensures { λ r. ⌜ r ≡ tested f (curveNumbers c) ⌝ }
+{
+    match c {
+        Curve::Segment(x1, y1, x2, y2) => coordinate(
+            coordinate(coordinate(coordinate(f, x1), y1), x2),
+            y2,
+        ),
+        Curve::Arc(a) => arc(f, a),
+    }
 }
 
 // The number of the first check that fails, and 0 where none does.

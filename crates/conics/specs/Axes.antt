@@ -8,7 +8,7 @@ use Rattle.laws.specs.Size.{abs}
 use Rattle.scalar.specs.Angles.{fracPi2}
 use Rattle.root.specs.SquareRoot.{squareRoot}
 use Rattle.arctan.specs.Rule.{arctangent}
-use Rattle.arc.specs.declared.Point.{Point}
+use Rattle.curves.specs.declared.Point.{Point}
 use Rattle.conics.specs.declared.conic.Conic.{Conic}
 use Rattle.conics.specs.declared.axes.Eigen.{Eigen}
 use Rattle.conics.specs.declared.axes.Squares.{Squares}

@@ -5,7 +5,7 @@ use mathlib.Core.List.{List}
 use lib.Ieee.{Float, neg}
 use Rattle.laws.specs.Rounded.{_⊕_, _⊗_, _⊘_}
 use Rattle.laws.specs.Literal.{two}
-use Rattle.arc.specs.declared.Point.{Point}
+use Rattle.curves.specs.declared.Point.{Point}
 use Rattle.conics.specs.declared.conic.Conic.{Conic}
 use Rattle.conics.specs.Lines.{_!_, lineValue}
 

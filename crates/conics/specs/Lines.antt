@@ -5,7 +5,7 @@ use mathlib.Core.List.{List, [], _∷_}
 use lib.ListN.{getD}
 use lib.Ieee.{Float, nan, neg}
 use Rattle.laws.specs.Rounded.{_⊕_, _⊖_, _⊗_, _⊘_}
-use Rattle.arc.specs.declared.Point.{Point}
+use Rattle.curves.specs.declared.Point.{Point}
 
 -- the number at a place of a line. Every line here has three.
 infixl 80 _!_

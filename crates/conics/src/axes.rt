@@ -2,7 +2,7 @@
 ghost use mathlib.Core.Path.{_≡_};
 ghost use Rattle.conics.specs.Axes.{determinant, centerOf, eigenvalues, eitherFlat, radiiSquared, eitherUnreal, rotation};
 use crate::conic::Conic;
-use arc::Point;
+use curves::Point;
 
 pub struct Eigen {
     pub ev1: f64,

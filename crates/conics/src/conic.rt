@@ -3,7 +3,7 @@ ghost use mathlib.Core.Path.{_≡_};
 ghost use Prim.Native.Nat.{_<_};
 ghost use Rattle.conics.specs.Conic.{lambda, entry, conicMatrix};
 use crate::lines;
-use arc::Point;
+use curves::Point;
 
 // Entries 00, 01, 11, 02, 12, 22. The other three are never read.
 pub struct Conic {

@@ -1,7 +1,7 @@
 // Lines as [a, b, c], those of ax + by + c = 0.
 ghost use mathlib.Core.Path.{_≡_};
 ghost use Rattle.conics.specs.Lines.{chord, lineThrough, normalized, lineValue};
-use arc::Point;
+use curves::Point;
 
 pub fn chord(p1: Point, p2: Point) -> Point
     ensures { λ r. ⌜ r ≡ chord p1 p2 ⌝ }

@@ -6,7 +6,7 @@ use Rattle.laws.specs.Rounded.{_⊕_, _⊖_, _⊗_, _⊘_}
 use Rattle.laws.specs.Literal.{two, ten⁻¹²}
 use Rattle.laws.specs.Size.{abs}
 use Rattle.arctan.specs.Rule.{arctangent}
-use Rattle.arc.specs.declared.Point.{Point}
+use Rattle.curves.specs.declared.Point.{Point}
 use Rattle.arc.specs.Span.{normTau}
 use Rattle.construct.specs.declared.ThreePoint.{ThreePoint}
 use Rattle.construct.specs.declared.ThreePoint.the-variants.{Is, Degenerate}

@@ -4,8 +4,8 @@ use mathlib.Core.Bool.{Bool, cond}
 use lib.Ieee.{Float, neg}
 use Rattle.laws.specs.Rounded.{_⊕_}
 use Rattle.sine.specs.Rule.{sine, cosine}
-use Rattle.arc.specs.declared.Point.{Point}
-use Rattle.arc.specs.declared.Radii.{Radii}
+use Rattle.curves.specs.declared.Point.{Point}
+use Rattle.curves.specs.declared.Radii.{Radii}
 use Rattle.construct.specs.declared.Converted.{Converted}
 use Rattle.construct.specs.declared.Conversion.{Conversion}
 use Rattle.construct.specs.declared.Conversion.the-variants.{Is, Degenerate}

@@ -7,8 +7,8 @@ use Rattle.laws.specs.Rounded.{_⊕_, _⊖_, _⊗_, _⊘_}
 use Rattle.laws.specs.Literal.{one, ten⁻¹²}
 use Rattle.laws.specs.Size.{abs}
 use Rattle.root.specs.SquareRoot.{squareRoot}
-use Rattle.arc.specs.declared.Point.{Point}
-use Rattle.arc.specs.declared.Radii.{Radii}
+use Rattle.curves.specs.declared.Point.{Point}
+use Rattle.curves.specs.declared.Radii.{Radii}
 
 -- F.6.2: "If the endpoints (x1, y1) and (x2, y2) are identical, then this is equivalent to omitting the elliptical arc segment entirely." A listed difference: 000 takes ends
 -- for identical that are less than 1e-12 apart in x and in y.

@@ -13,8 +13,8 @@ use Rattle.scalar.specs.Clamp.{clamp}
 use Rattle.root.specs.SquareRoot.{squareRoot}
 use Rattle.arctan.specs.Rule.{arctangent}
 use Rattle.arccos.specs.Arccos.{arccosine}
-use Rattle.arc.specs.declared.Point.{Point}
-use Rattle.arc.specs.declared.Radii.{Radii}
+use Rattle.curves.specs.declared.Point.{Point}
+use Rattle.curves.specs.declared.Radii.{Radii}
 use Rattle.root.specs.Norm.{norm}
 
 -- F.6.5.1: (x1', y1') is [cos φ, sin φ; -sin φ, cos φ] times ((x1 - x2) / 2, (y1 - y2) / 2).

@@ -5,7 +5,7 @@ use lib.Ieee.{Float, lt, neg}
 use Rattle.laws.specs.Rounded.{_⊕_, _⊖_, _⊗_, _⊘_}
 use Rattle.laws.specs.Literal.{two, ten⁻¹²}
 use Rattle.laws.specs.Size.{abs}
-use Rattle.arc.specs.declared.Point.{Point}
+use Rattle.curves.specs.declared.Point.{Point}
 use Rattle.construct.specs.declared.TangentCircle.{TangentCircle}
 use Rattle.construct.specs.declared.TangentCircle.the-variants.{Is, Degenerate}
 use Rattle.root.specs.Norm.{norm}

@@ -4,8 +4,8 @@ ghost use Rattle.construct.specs.Conversion.{aboutCenter, svgArcToCenter
 use crate::Conversion;
 use crate::Converted;
 use crate::svg;
-use arc::Point;
-use arc::Radii;
+use curves::Point;
+use curves::Radii;
 
 // The steps after the tests, with radii that are not negative.
 fn about_center(

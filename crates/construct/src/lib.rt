@@ -4,8 +4,8 @@ mod svg;
 mod tangent;
 mod three_points;
 
-use arc::Point;
 pub use center::svg_arc_to_center;
+use curves::Point;
 pub use tangent::circle_tangent_through;
 pub use three_points::circumscribed_arc;
 

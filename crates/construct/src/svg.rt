@@ -2,8 +2,8 @@
 ghost use mathlib.Core.Path.{_≡_};
 ghost use Rattle.construct.specs.OutOfRange.{identical, straight, lambda, enlarged};
 ghost use Rattle.construct.specs.Svg.{primed, quotientRoot, sign, primedCenter, turnedBack, scaled, angle, swept};
-use arc::Point;
-use arc::Radii;
+use curves::Point;
+use curves::Radii;
 use scalar::TAU;
 use sine::SinCos;
 

@@ -3,7 +3,7 @@ ghost use mathlib.Core.Path.{_≡_};
 ghost use Rattle.construct.specs.TangentCircle.{circleTangentThrough};
 use crate::Circle;
 use crate::TangentCircle;
-use arc::Point;
+use curves::Point;
 
 pub fn circle_tangent_through(s: Point, e: Point, t: Point) -> TangentCircle
     ensures { λ r. ⌜ r ≡ circleTangentThrough s e t ⌝ }

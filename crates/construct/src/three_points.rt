@@ -3,7 +3,7 @@ ghost use mathlib.Core.Path.{_≡_};
 ghost use Rattle.construct.specs.Circumscribed.{bearing, circumcenter, circumscribedArc};
 use crate::Circumscribed;
 use crate::ThreePoint;
-use arc::Point;
+use curves::Point;
 
 // The angle at which p is seen from the center.
 fn bearing(center: Point, p: Point) -> f64

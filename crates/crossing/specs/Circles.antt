@@ -8,8 +8,8 @@ use Rattle.laws.specs.Size.{abs}
 use Rattle.root.specs.SquareRoot.{squareRoot}
 use Rattle.root.specs.Norm.{norm}
 use Rattle.arctan.specs.Rule.{arctangent}
-use Rattle.arc.specs.declared.Point.{Point}
-use Rattle.arc.specs.declared.Arc.{Arc}
+use Rattle.curves.specs.declared.Point.{Point}
+use Rattle.curves.specs.declared.Arc.{Arc}
 use Rattle.arc.specs.Span.{arcParamInSpan}
 use Rattle.hits.specs.declared.Crossing.{Crossing}
 use Rattle.hits.specs.declared.Crossings.{Crossings}

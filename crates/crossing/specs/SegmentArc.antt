@@ -8,8 +8,8 @@ use Rattle.scalar.specs.Clamp.{clamp}
 use Rattle.root.specs.SquareRoot.{squareRoot}
 use Rattle.sine.specs.Rule.{sine, cosine}
 use Rattle.arctan.specs.Rule.{arctangent}
-use Rattle.arc.specs.declared.Point.{Point}
-use Rattle.arc.specs.declared.Arc.{Arc}
+use Rattle.curves.specs.declared.Point.{Point}
+use Rattle.curves.specs.declared.Arc.{Arc}
 use Rattle.arc.specs.declared.InSpan.the-variants.{At}
 use Rattle.arc.specs.Span.{arcParamInSpan}
 use Rattle.arc.specs.Frame.{arcRadii, toUnit}
@@ -18,7 +18,7 @@ use Rattle.hits.specs.declared.Crossing.the-variants.{Miss}
 use Rattle.hits.specs.declared.Crossings.{Crossings}
 use Rattle.hits.specs.declared.Crossings.the-variants as found
 use Rattle.hits.specs.Listed as listed
-use Rattle.line.specs.Segments.{onSegment}
+use Rattle.segments.specs.Segments.{onSegment}
 use Rattle.crossing.specs.declared.segment.Roots.{Roots}
 use Rattle.crossing.specs.declared.segment.Roots.the-variants.{None, One, Two}
 use Rattle.crossing.specs.Meet.{meet}

@@ -1,8 +1,8 @@
 // Two circles, by the two-circle construction.
 ghost use mathlib.Core.Path.{_≡_};
 ghost use Rattle.crossing.specs.Circles.{halfChord, candidate, candidates, intersectCircleCircle};
-use arc::Arc;
-use arc::Point;
+use curves::Arc;
+use curves::Point;
 use hits::Crossing;
 use hits::Crossings;
 

@@ -1,9 +1,9 @@
 // A segment and an arc: in the frame where the arc's curve is the unit circle a quadratic gives the crossings.
 ghost use mathlib.Core.Path.{_≡_};
 ghost use Rattle.crossing.specs.SegmentArc.{unitRoots, segmentHit, hitsAt, intersectSegmentArc};
-use arc::Arc;
 use arc::InSpan;
-use arc::Point;
+use curves::Arc;
+use curves::Point;
 use hits::Crossing;
 use hits::Crossings;
 
@@ -39,7 +39,7 @@ fn unit_roots(a: Point, d: Point) -> Roots
 fn segment_hit(p1: Point, p2: Point, arc: Arc, a: Point, d: Point, t: f64) -> Crossing
     ensures { λ r. ⌜ r ≡ segmentHit p1 p2 arc a d t ⌝ }
 {
-    if !line::on_segment(t) {
+    if !segments::on_segment(t) {
         return Crossing::Miss;
     }
     let t = scalar::clamp(t, 0.0, 1.0);

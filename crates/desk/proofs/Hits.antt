@@ -10,7 +10,7 @@ use lib.Ieee.{Float}
 use Rattle.hits.specs.declared.CurveHit.{CurveHit}
 use Rattle.hits.specs.Hit.{flat, written}
 use Rattle.desk.specs.Hits.{hitAt}
-use Rattle.printing.specs.Printed.{hitLine, hitLines}
+use Rattle.desk_print.specs.Printed.{hitLine, hitLines}
 
 hits-flat : (hs : List CurveHit) (r : List Float) (i : ℕ) → i < length hs → drop i hs ≡ hitAt (flat hs ++ r) i ∷ drop (suc i) hs
 unfolding flat

@@ -7,9 +7,9 @@ use borrow.Author.Tests.{le-ltb, ltb-false}
 use lib.Dec.{ltb}
 use lib.ListN.{length}
 use lib.Pow.{pow-mono}
-use Rattle.arc.specs.declared.Arc.{Arc}
+use Rattle.curves.specs.declared.Arc.{Arc}
 use Rattle.arc.specs.Frame.{arcRadii}
-use Rattle.one_bracket.specs.Frame.{frame}
+use Rattle.hunt_bracket.specs.Frame.{frame}
 use Rattle.hunt.specs.Cells.{cells, span}
 use Rattle.hunt.specs.Hunt.{early, hunted}
 use Rattle.laws.specs.Part.{part}
@@ -19,15 +19,16 @@ use Rattle.checks.specs.declared.Faults.{Faults}
 use Rattle.checks.specs.Refusal.{refusal}
 use Rattle.hits.specs.declared.Crossings.{Crossings}
 use Rattle.hits.specs.Listed.{listed, one, exchanged}
-use Rattle.line.specs.Segments.{intersectSegments}
+use Rattle.segments.specs.Segments.{intersectSegments}
 use Rattle.crossing.specs.SegmentArc.{intersectSegmentArc}
 use Rattle.crossing.specs.Circles.{intersectCircleCircle}
-use Rattle.queries.specs.declared.curves.Curve.{Curve}
-use Rattle.queries.specs.declared.curves.Curve.the-variants.{Segment, Bow}
-use Rattle.queries.specs.Curves.{at, curvesNeed, curvesOutcome}
-use Rattle.queries.specs.Need.{pairNeed}
-use Rattle.queries.specs.Pairs.{pairOutcome}
-use Rattle.queries.proofs.Rooms.{listed-two, pair-hunted, pair-closed}
+use Rattle.curves.specs.declared.Curve.{Curve}
+use Rattle.curves.specs.declared.Curve.the-variants as curve
+use Rattle.curves.specs.At.{at}
+use Rattle.calls_curves.specs.Curves.{curvesNeed, curvesOutcome}
+use Rattle.calls_crossings.specs.Need.{pairNeed}
+use Rattle.calls_crossings.specs.Pairs.{pairOutcome}
+use Rattle.calls_crossings.proofs.Rooms.{listed-two, pair-hunted, pair-closed}
 
 cells-most : (depth : ℕ) → depth ≤ 3 → cells depth ≤ 2048
 cells-most depth h = let p : 2 ^ depth ≤ 8 = pow-mono h in omega arith
@@ -41,10 +42,10 @@ pair-need a b depth h = go (a .«is_ellipse» || b .«is_ellipse»)
     go false = omega arith
 
 pub need-most : (a b : Curve) (depth : ℕ) → depth ≤ 3 → curvesNeed a b depth ≤ 8192
-need-most (Segment x1 y1 x2 y2) (Segment u1 v1 u2 v2) depth h = omega arith
-need-most (Segment x1 y1 x2 y2) (Bow b) depth h = omega arith
-need-most (Bow a) (Segment u1 v1 u2 v2) depth h = omega arith
-need-most (Bow a) (Bow b) depth h = pair-need a b depth h
+need-most (curve.Segment x1 y1 x2 y2) (curve.Segment u1 v1 u2 v2) depth h = omega arith
+need-most (curve.Segment x1 y1 x2 y2) (curve.Arc b) depth h = omega arith
+need-most (curve.Arc a) (curve.Segment u1 v1 u2 v2) depth h = omega arith
+need-most (curve.Arc a) (curve.Arc b) depth h = pair-need a b depth h
 
 hunted-most : (a b : Arc) (depth : ℕ) → depth ≤ 3 → length (hunted a b depth .hits) ≤ 2048
 hunted-most a b depth h = go (early (arcRadii b) (span a)) refl
@@ -67,10 +68,10 @@ pair-most a b depth h = go (a .«is_ellipse» || b .«is_ellipse») refl
     go false i = rw (pair-closed a b depth i) (few (intersectCircleCircle a b))
 
 pub hits-most : (a b : Curve) (depth : ℕ) → depth ≤ 3 → length (curvesOutcome a b depth .hits) ≤ 2048
-hits-most (Segment x1 y1 x2 y2) (Segment u1 v1 u2 v2) depth h = few (one (intersectSegments (at x1 y1) (at x2 y2) (at u1 v1) (at u2 v2)))
-hits-most (Segment x1 y1 x2 y2) (Bow b) depth h = few (intersectSegmentArc (at x1 y1) (at x2 y2) b)
-hits-most (Bow a) (Segment u1 v1 u2 v2) depth h = few (exchanged (intersectSegmentArc (at u1 v1) (at u2 v2) a))
-hits-most (Bow a) (Bow b) depth h = pair-most a b depth h
+hits-most (curve.Segment x1 y1 x2 y2) (curve.Segment u1 v1 u2 v2) depth h = few (one (intersectSegments (at x1 y1) (at x2 y2) (at u1 v1) (at u2 v2)))
+hits-most (curve.Segment x1 y1 x2 y2) (curve.Arc b) depth h = few (intersectSegmentArc (at x1 y1) (at x2 y2) b)
+hits-most (curve.Arc a) (curve.Segment u1 v1 u2 v2) depth h = few (exchanged (intersectSegmentArc (at u1 v1) (at u2 v2) a))
+hits-most (curve.Arc a) (curve.Arc b) depth h = pair-most a b depth h
 
 abbrev chosen : Bool → Bool → Bool → ℕ → ℕ
 chosen a b c n = cond a 1 (cond b 2 (cond c 3 n))

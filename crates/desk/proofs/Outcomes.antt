@@ -11,15 +11,15 @@ use lib.Ieee.{Float}
 use Rattle.hits.specs.Hit.{written}
 use Rattle.hits.proofs.Rooms.{written-none}
 use Rattle.digits.specs.Spliced.{Put}
-use Rattle.queries.specs.declared.curves.Curve.{Curve}
-use Rattle.queries.specs.Curves.{curvesOutcome}
-use Rattle.lines.specs.declared.Line.{Line}
-use Rattle.lines.specs.declared.Line.the-variants.{Query, Malformed}
+use Rattle.curves.specs.declared.Curve.{Curve}
+use Rattle.calls_curves.specs.Curves.{curvesOutcome}
+use Rattle.desk_line.specs.declared.Line.{Line}
+use Rattle.desk_line.specs.declared.Line.the-variants.{Query, Malformed}
 use Rattle.desk.specs.declared.Table.{Table}
 use Rattle.desk.specs.declared.Answered.{Answered}
 use Rattle.desk.specs.Table.{recordAt, stored}
 use Rattle.desk.specs.Refused.{recordRefusal, queryRefusal}
-use Rattle.printing.specs.Printed.{refusedLine}
+use Rattle.desk_print.specs.Printed.{refusedLine}
 use Rattle.desk.specs.Reply.{nothing, crossed, unless, stays, shown, tableAfter}
 use Rattle.desk.specs.Answer.{After, short, untouched, answer, Shows}
 

@@ -6,8 +6,8 @@ use native.Mathlib.Omega.{arith}
 use borrow.Author.Tests.{ltb-true, leb-true}
 use lib.Dec.{leb, ltb}
 use Rattle.checks.specs.Refusal.{refusalOf}
-use Rattle.queries.specs.declared.curves.Curve.{Curve}
-use Rattle.queries.specs.Curves.{curveNumbers}
+use Rattle.curves.specs.declared.Curve.{Curve}
+use Rattle.checks.specs.Given.{curveNumbers}
 use Rattle.desk.specs.declared.Table.{Table}
 use Rattle.desk.specs.Table.{most, held, recordAt}
 use Rattle.desk.specs.Refused.{recordRefusal, pairRefusal, queryRefusal}

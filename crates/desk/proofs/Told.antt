@@ -11,17 +11,18 @@ use lib.ListN.{length, take}
 use lib.Ieee.{Float}
 use Rattle.hits.specs.declared.CurveHit.{CurveHit}
 use Rattle.hits.specs.Hit.{written}
-use Rattle.hunt.specs.declared.Tally.{Tally}
-use Rattle.hunt.specs.Outcome.{tally}
+use Rattle.hits.specs.declared.Tally.{Tally}
+use Rattle.hits.specs.Outcome.{tally}
 use Rattle.checks.specs.declared.Hunted.the-variants.{Counts, Refused}
 use Rattle.checks.specs.Given.{tested}
 use Rattle.checks.specs.Refusal.{unfaulted, refusalOf}
 use Rattle.checks.specs.Answer.{Answer, answered, huntedTold, tallyCounts}
 use Rattle.checks.proofs.Tested.{unrefused}
 use Rattle.checks.proofs.Outcomes.{hunted-told-unique}
-use Rattle.queries.specs.declared.curves.Curve.{Curve}
-use Rattle.queries.specs.Crossed.{Crossed}
-use Rattle.queries.specs.Curves.{curveNumbers, curvesNeed, curvesOutcome}
+use Rattle.curves.specs.declared.Curve.{Curve}
+use Rattle.calls_crossings.specs.Crossed.{Crossed}
+use Rattle.checks.specs.Given.{curveNumbers}
+use Rattle.calls_curves.specs.Curves.{curvesNeed, curvesOutcome}
 use Rattle.desk.specs.Refused.{pairRefusal}
 use Rattle.desk.proofs.Needs.{need-most, hits-most, room-enough}
 

@@ -10,7 +10,7 @@ use lib.ListN.{length}
 use lib.Ieee.{Float}
 use Rattle.hits.specs.Hit.{written}
 use Rattle.digits.specs.Spliced.{spliced, Put}
-use Rattle.lines.specs.declared.Line.{Line}
+use Rattle.desk_line.specs.declared.Line.{Line}
 use Rattle.desk.specs.declared.Table.{Table}
 use Rattle.desk.specs.declared.Answered.{Answered}
 use Rattle.desk.specs.Reply.{Shown, shown, tableAfter}

@@ -5,12 +5,12 @@ use Prim.Native.Nat.{ℕ}
 use mathlib.Core.Bool.{cond, _&&_}
 use mathlib.Core.List.{_++_}
 use lib.Dec.{ltb}
-use Rattle.queries.specs.declared.curves.Curve.{Curve}
-use Rattle.queries.specs.declared.curves.Curve.the-variants as curve
-use Rattle.queries.specs.Curves.{curveNumbers}
+use Rattle.curves.specs.declared.Curve.{Curve}
+use Rattle.curves.specs.declared.Curve.the-variants as curve
+use Rattle.checks.specs.Given.{curveNumbers}
 use Rattle.checks.specs.Refusal.{refusalOf}
-use Rattle.lines.specs.declared.Line.{Line}
-use Rattle.lines.specs.declared.Line.the-variants.{Segment, Bow, Query, Malformed}
+use Rattle.desk_line.specs.declared.Line.{Line}
+use Rattle.desk_line.specs.declared.Line.the-variants as says
 use Rattle.desk.specs.declared.Table.{Table}
 use Rattle.desk.specs.Table.{most, held, recordAt}
 
@@ -28,7 +28,7 @@ queryRefusal t i j depth = cond (held (t .count) i && held (t .count) j) (pairRe
 
 -- 0 for none
 abbrev pub refusal : Table → Line → ℕ
-refusal t (Segment x1 y1 x2 y2) = recordRefusal t (curve.Segment x1 y1 x2 y2)
-refusal t (Bow a) = recordRefusal t (curve.Bow a)
-refusal t (Query i j depth) = queryRefusal t i j depth
-refusal t Malformed = 7
+refusal t (says.Segment x1 y1 x2 y2) = recordRefusal t (curve.Segment x1 y1 x2 y2)
+refusal t (says.Arc a) = recordRefusal t (curve.Arc a)
+refusal t (says.Query i j depth) = queryRefusal t i j depth
+refusal t says.Malformed = 7

@@ -5,15 +5,15 @@ use mathlib.Core.Bool.{cond}
 use mathlib.Core.List.{List, [], _++_}
 use lib.Dec.{eqb}
 use Rattle.hits.specs.declared.CurveHit.{CurveHit}
-use Rattle.hunt.specs.Outcome.{Outcome, tally}
-use Rattle.queries.specs.declared.curves.Curve.the-variants as curve
-use Rattle.queries.specs.Curves.{curvesOutcome}
-use Rattle.lines.specs.declared.Line.{Line}
-use Rattle.lines.specs.declared.Line.the-variants.{Segment, Bow, Query, Malformed}
+use Rattle.hits.specs.Outcome.{Outcome, tally}
+use Rattle.curves.specs.declared.Curve.the-variants as curve
+use Rattle.calls_curves.specs.Curves.{curvesOutcome}
+use Rattle.desk_line.specs.declared.Line.{Line}
+use Rattle.desk_line.specs.declared.Line.the-variants as says
 use Rattle.desk.specs.declared.Table.{Table}
 use Rattle.desk.specs.Table.{recordAt, stored}
 use Rattle.desk.specs.Refused.{refusal}
-use Rattle.printing.specs.Printed.{refusedLine, hitLines, endLine}
+use Rattle.desk_print.specs.Printed.{refusedLine, hitLines, endLine}
 
 -- the bytes to print, and the hits that are left in the room
 pub record Shown : Type 0 where
@@ -39,16 +39,16 @@ stays n t next = cond (eqb n 0) next t
 
 -- of a line that is not refused, as a malformed one always is
 abbrev pub taken : Table → ℕ → Line → Shown
-taken t line (Segment x1 y1 x2 y2) = nothing
-taken t line (Bow a) = nothing
-taken t line (Query i j depth) = crossed line (curvesOutcome (recordAt t i) (recordAt t j) depth)
-taken t line Malformed = nothing
+taken t line (says.Segment x1 y1 x2 y2) = nothing
+taken t line (says.Arc a) = nothing
+taken t line (says.Query i j depth) = crossed line (curvesOutcome (recordAt t i) (recordAt t j) depth)
+taken t line says.Malformed = nothing
 
 abbrev pub grown : Table → Line → Table
-grown t (Segment x1 y1 x2 y2) = stored t (curve.Segment x1 y1 x2 y2)
-grown t (Bow a) = stored t (curve.Bow a)
-grown t (Query i j depth) = t
-grown t Malformed = t
+grown t (says.Segment x1 y1 x2 y2) = stored t (curve.Segment x1 y1 x2 y2)
+grown t (says.Arc a) = stored t (curve.Arc a)
+grown t (says.Query i j depth) = t
+grown t says.Malformed = t
 
 -- THE RULE of one line: what it shows, and the table after it
 unfoldable pub shown : Table → ℕ → Line → Shown

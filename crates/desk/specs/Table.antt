@@ -6,8 +6,8 @@ use lib.Dec.{leb, ltb}
 use lib.ListN.{getD, set, replicate}
 use lib.Ieee.{nan}
 use Rattle.laws.specs.Literal.{zero}
-use Rattle.queries.specs.declared.curves.Curve.{Curve}
-use Rattle.queries.specs.declared.curves.Curve.the-variants.{Segment}
+use Rattle.curves.specs.declared.Curve.{Curve}
+use Rattle.curves.specs.declared.Curve.the-variants.{Segment}
 use Rattle.desk.specs.declared.Place.{Place}
 use Rattle.desk.specs.declared.Table.{Table}
 

@@ -6,21 +6,21 @@ ghost use lib.ListN.{length};
 ghost use lib.Ieee.{Float};
 ghost use Rattle.hits.specs.declared.CurveHit.{CurveHit};
 ghost use Rattle.hits.specs.Hit.{hitSize, written};
-ghost use Rattle.queries.specs.Curves.{curvesOutcome};
+ghost use Rattle.calls_curves.specs.Curves.{curvesOutcome};
 ghost use Rattle.digits.specs.Spliced.{Put};
 ghost use Rattle.desk.specs.Table.{recordAt};
 ghost use Rattle.desk.specs.Refused.{pairRefusal, queryRefusal};
-ghost use Rattle.printing.specs.Printed.{hitLines};
+ghost use Rattle.desk_print.specs.Printed.{hitLines};
 ghost use Rattle.desk.specs.Hits.{hitAt};
 ghost use Rattle.desk.specs.Reply.{crossed, unless};
 ghost use Rattle.desk.specs.Answer.{roomNeed, outNeed, Shows};
 use crate::Table;
 use crate::records;
-use arc::Point;
 use checks::Hunted;
+use curves::Curve;
+use curves::Point;
 use hits::CurveHit;
 use hits::HIT;
-use queries::Curve;
 
 // The hit i of those in the room.
 fn hit_at(room: &[f64], i: usize) -> CurveHit
@@ -47,7 +47,7 @@ fn put_hits(out: &mut [u8], line: u64, room: &[f64], hits: usize) -> usize
     let mut i: usize = 0;
     while i < hits {
         let h = hit_at(room, i);
-        at = printing::hit_line(out, at, line, (i + 1) as u64, h);
+        at = desk_print::hit_line(out, at, line, (i + 1) as u64, h);
         i += 1;
     }
     at
@@ -58,12 +58,12 @@ fn cross(a: Curve, b: Curve, depth: u32, line: u64, room: &mut [f64], out: &mut 
     requires { ⌜ (roomNeed ≤ length (now room)) × (outNeed ≤ length (now out)) ⌝ }
     ensures { λ r. ⌜ Shows (unless (pairRefusal a b depth) line (crossed line (curvesOutcome a b depth))) (now (room .entry)) (now (out .entry)) r (now (room .exit)) (now (out .exit)) ⌝ }
 {
-    match queries::intersect(a, b, depth, room) {
+    match calls_curves::intersect(a, b, depth, room) {
         Hunted::Counts(t) => {
             let at = put_hits(out, line, room, t.hits);
-            printing::end_line(out, at, line, t)
+            desk_print::end_line(out, at, line, t)
         }
-        Hunted::Refused(no) => printing::refused_line(out, line, no),
+        Hunted::Refused(no) => desk_print::refused_line(out, line, no),
     }
 }
 
@@ -89,5 +89,5 @@ pub fn query(
         let b = records::record_at(table, j);
         return cross(a, b, depth, line, room, out);
     }
-    printing::refused_line(out, line, 8)
+    desk_print::refused_line(out, line, 8)
 }

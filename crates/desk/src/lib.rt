@@ -6,8 +6,8 @@ ghost use Rattle.desk.specs.Answer.{answer};
 mod crossings;
 mod records;
 
-use lines::Line;
-use queries::Curve;
+use curves::Curve;
+use desk_line::Line;
 
 // How many records there can be.
 pub const MOST: usize = 64;
@@ -62,7 +62,7 @@ pub fn answer(table: Table, number: u64, line: Line, room: &mut [f64], out: &mut
         Line::Segment(x1, y1, x2, y2) => {
             records::keep(table, Curve::Segment(x1, y1, x2, y2), number, out)
         }
-        Line::Bow(a) => records::keep(table, Curve::Bow(a), number, out),
+        Line::Arc(a) => records::keep(table, Curve::Arc(a), number, out),
         Line::Query(i, j, depth) => {
             let printed = crossings::query(table, i, j, depth, number, room, out);
             Answered {
@@ -72,7 +72,7 @@ pub fn answer(table: Table, number: u64, line: Line, room: &mut [f64], out: &mut
             }
         }
         Line::Malformed => {
-            let printed = printing::refused_line(out, number, 7);
+            let printed = desk_print::refused_line(out, number, 7);
             Answered {
                 table: table,
                 printed: printed,

@@ -12,7 +12,7 @@ use crate::Answered;
 use crate::MOST;
 use crate::Place;
 use crate::Table;
-use queries::Curve;
+use curves::Curve;
 
 pub fn held(count: usize, k: usize) -> bool
     ensures { λ r. ⌜ r ≡ held count k ⌝ }
@@ -50,7 +50,7 @@ fn record_refusal(table: Table, c: Curve) -> u8
     ensures { λ r. ⌜ r ≡ recordRefusal table c ⌝ }
 {
     if table.count < MOST {
-        return checks::refusal(queries::curve_faults(checks::none(), c), 0, 0, 0);
+        return checks::refusal(checks::curve(checks::none(), c), 0, 0, 0);
     }
     9
 }
@@ -69,7 +69,7 @@ pub fn keep(table: Table, c: Curve, line: u64, out: &mut [u8]) -> Answered
             short: false,
         };
     }
-    let printed = printing::refused_line(out, line, no);
+    let printed = desk_print::refused_line(out, line, no);
     Answered {
         table: table,
         printed: printed,

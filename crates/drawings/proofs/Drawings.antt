@@ -16,13 +16,13 @@ use Rattle.arctan_table.specs.Table.{table, coefsAt}
 use Rattle.arc.specs.Span.{normTau, within, arcParamInSpan}
 use Rattle.arc.specs.Frame.{arcRadii}
 use Rattle.hits.specs.Hit.{flat}
-use Rattle.line.specs.Segments.{intersectSegments, onSegment}
+use Rattle.segments.specs.Segments.{intersectSegments, onSegment}
 use Rattle.crossing.specs.SegmentArc.{intersectSegmentArc, segmentHit, unitRoots}
 use Rattle.crossing.specs.Circles.{intersectCircleCircle, candidates, candidate, halfChord}
 use Rattle.root.specs.Norm.{norm}
 use Rattle.construct.specs.Circumscribed.{circumscribedArc, circumcenter, bearing}
 use Rattle.construct.specs.TangentCircle.{circleTangentThrough}
-use Rattle.queries.specs.Pairs.{pairOutcome}
+use Rattle.calls_crossings.specs.Pairs.{pairOutcome}
 use Rattle.drawings.specs.Drawing.{Drawing, found}
 use Rattle.drawings.specs.Table.{drawings}
 

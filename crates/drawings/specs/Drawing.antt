@@ -5,16 +5,16 @@ use mathlib.Core.List.{List, map, _++_}
 use lib.Ieee.{Float, binary64, toBits}
 use Rattle.laws.specs.Literal.{zero}
 use Rattle.scalar.specs.Angles.{tau}
-use Rattle.arc.specs.declared.Point.{Point}
-use Rattle.arc.specs.declared.Arc.{Arc}
+use Rattle.curves.specs.declared.Point.{Point}
+use Rattle.curves.specs.declared.Arc.{Arc}
 use Rattle.hits.specs.Hit.{flat}
 use Rattle.construct.specs.Circumscribed.{circumscribedArc}
 use Rattle.construct.specs.TangentCircle.{circleTangentThrough}
 use Rattle.checks.specs.Answer.{Answer}
-use Rattle.queries.specs.declared.curves.Curve.{Curve}
-use Rattle.queries.specs.declared.curves.Curve.the-variants.{Segment, Bow}
-use Rattle.queries.specs.Curves.{curvesOutcome}
-use Rattle.shapes.specs.Shape.{threePointTold, tangentCircleTold}
+use Rattle.curves.specs.declared.Curve.{Curve}
+use Rattle.curves.specs.declared.Curve.the-variants as curve
+use Rattle.calls_curves.specs.Curves.{curvesOutcome}
+use Rattle.calls_shapes.specs.Shape.{threePointTold, tangentCircleTold}
 
 pub data Call : Type 0 where
   cross : Curve → Curve → Call
@@ -31,7 +31,7 @@ at x y = record { x = x; y = y }
 -- "Rotation 0, closed circles start at 0."
 abbrev pub circle : Float → Float → Float → Curve
 circle x y r =
-    Bow (record {
+    curve.Arc (record {
       center = record { x = x; y = y };
       radius = r;
       «radius_b» = r;

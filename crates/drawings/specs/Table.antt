@@ -2,7 +2,7 @@
 use mathlib.Core.List.{List, [], _∷_}
 use lib.Ieee.{Float, binary64, ofBits, neg}
 use Rattle.laws.specs.Literal.{zero, one, two, three}
-use Rattle.queries.specs.declared.curves.Curve.the-variants.{Segment}
+use Rattle.curves.specs.declared.Curve.the-variants.{Segment}
 use Rattle.drawings.specs.Drawing.{Drawing, cross, circleThrough, arcThrough, at, circle}
 
 -- 1.5, 5 and 6

@@ -7,8 +7,8 @@ use Rattle.laws.specs.Literal.{zero}
 use Rattle.root.specs.SquareRoot.{squareRoot}
 use Rattle.sine.specs.Rule.{sine, cosine}
 use Rattle.arctan.specs.Rule.{arctangent}
-use Rattle.arc.specs.declared.Point.{Point}
-use Rattle.arc.specs.declared.Radii.{Radii}
+use Rattle.curves.specs.declared.Point.{Point}
+use Rattle.curves.specs.declared.Radii.{Radii}
 use Rattle.arc.specs.Ellipse.{ellipseTangent}
 use Rattle.earc_fit.specs.declared.Fitted.{Fitted}
 use Rattle.conics.specs.declared.axes.Squares.{Squares}

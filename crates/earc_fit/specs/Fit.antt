@@ -5,7 +5,7 @@ use mathlib.Core.Bool.{cond}
 use lib.Ieee.{Float, lt, le}
 use Rattle.laws.specs.Literal.{ten⁻¹²}
 use Rattle.laws.specs.Size.{abs}
-use Rattle.arc.specs.declared.Point.{Point}
+use Rattle.curves.specs.declared.Point.{Point}
 use Rattle.earc_fit.specs.declared.Fit.{Fit}
 use Rattle.earc_fit.specs.declared.Fit.the-variants.{Is, Degenerate}
 use Rattle.conics.specs.declared.conic.Conic.{Conic}

@@ -6,7 +6,7 @@ use lib.Ieee.{Float, neg, lt, le}
 use Rattle.laws.specs.Rounded.{_⊕_, _⊖_, _⊗_, _⊘_}
 use Rattle.laws.specs.Literal.{zero, one, two, ten⁻¹²}
 use Rattle.laws.specs.Size.{abs}
-use Rattle.arc.specs.declared.Point.{Point}
+use Rattle.curves.specs.declared.Point.{Point}
 use Rattle.conics.specs.Lines.{lineValue}
 
 -- Of parallel normals 001 says: "both target sides yield the same lambda -- the sign is inert here".

@@ -2,9 +2,9 @@
 ghost use mathlib.Core.Path.{_≡_};
 ghost use Rattle.earc_fit.specs.Ends.{parametric, agrees, fittedArc};
 use crate::Fitted;
-use arc::Point;
-use arc::Radii;
 use conics::axes::Squares;
+use curves::Point;
+use curves::Radii;
 use sine::SinCos;
 
 fn parametric(p: Point, center: Point, r: Radii, rot: SinCos) -> f64

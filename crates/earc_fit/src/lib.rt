@@ -4,11 +4,11 @@ mod target;
 
 ghost use mathlib.Core.Path.{_≡_};
 ghost use Rattle.earc_fit.specs.Fit.{conicArc, fitEarcTangent};
-use arc::Point;
 use conics::axes;
 use conics::conic;
 use conics::conic::Conic;
 use conics::lines;
+use curves::Point;
 
 pub struct Fitted {
     pub center: Point,

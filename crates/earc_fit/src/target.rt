@@ -1,8 +1,8 @@
 // The point that the bulge asks for.
 ghost use mathlib.Core.Path.{_≡_};
 ghost use Rattle.earc_fit.specs.Target.{bulgeSign, targetMid};
-use arc::Point;
 use conics::lines;
+use curves::Point;
 
 // The center is guessed where the normals at the two ends meet; where they are parallel both sides give the same conic. 001 means
 // the arc to bulge away from the center, but its perpendicular points to m's other side, and so a positive bulge lies on the

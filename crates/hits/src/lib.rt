@@ -4,7 +4,7 @@ ghost use Prim.Native.Nat.{_<_, _≤_, _/_};
 ghost use lib.ListN.{length};
 ghost use Rattle.hits.specs.Hit.{hitSize, put, written, hitPart};
 ghost use Rattle.hits.specs.Listed.{listed, one, both, turned, exchanged};
-use arc::Point;
+use curves::Point;
 
 // How many numbers a hit takes.
 pub const HIT: usize = 4;
@@ -14,6 +14,16 @@ pub struct CurveHit {
     pub t_a: f64,
     pub t_b: f64,
     pub pos: Point,
+}
+
+// What a hunt counts. The four fates, hits among them, add up to the brackets.
+pub struct Tally {
+    pub hits: usize,
+    pub brackets: u32,
+    pub outside_a: u32,
+    pub outside_b: u32,
+    pub doubles: u32,
+    pub evaluations: u32,
 }
 
 // A candidate that the tests have kept or dropped.

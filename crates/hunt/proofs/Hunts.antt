@@ -6,13 +6,14 @@ use Prim.Native.Nat.{ℕ, _+_, _*_}
 use lib.ListN.{length}
 use lib.Ieee.{Float}
 use Rattle.laws.specs.Part.{part}
-use Rattle.arc.specs.declared.Arc.{Arc}
+use Rattle.curves.specs.declared.Arc.{Arc}
 use Rattle.arc.specs.Frame.{arcRadii}
-use Rattle.one_bracket.specs.declared.Frame.{Frame}
-use Rattle.hunt.specs.declared.Tally.{Tally}
-use Rattle.one_bracket.specs.Frame.{frame}
+use Rattle.hunt_bracket.specs.declared.Frame.{Frame}
+use Rattle.hits.specs.declared.Tally.{Tally}
+use Rattle.hunt_bracket.specs.Frame.{frame}
 use Rattle.hunt.specs.Cells.{cells, span, firstCells, bracketed}
-use Rattle.hunt.specs.Outcome.{none, scanned, fates}
+use Rattle.hits.specs.Outcome.{none}
+use Rattle.hunt.specs.Visits.{scanned, fates}
 use Rattle.hunt.specs.Hunt.{early, hunted, Hunted}
 use Rattle.hunt.proofs.Outcomes.{scanned-brackets, scanned-fates, scanned-angles}
 

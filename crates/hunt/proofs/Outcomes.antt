@@ -10,16 +10,17 @@ use native.Mathlib.Omega.{arith}
 use lib.ListN.{length, getD, length-append, List·getD-append}
 use lib.Seq.{getD-append-add}
 use lib.Ieee.{Float}
-use Rattle.one_bracket.specs.declared.Frame.{Frame}
-use Rattle.one_bracket.specs.declared.Cell.{Cell}
-use Rattle.one_bracket.specs.declared.Fate.{Fate}
-use Rattle.one_bracket.specs.declared.Fate.the-variants.{OutsideA, OutsideB, Double, Hit}
-use Rattle.one_bracket.specs.Frame.{value}
+use Rattle.hunt_bracket.specs.declared.Frame.{Frame}
+use Rattle.hunt_bracket.specs.declared.Cell.{Cell}
+use Rattle.hunt_bracket.specs.declared.Fate.{Fate}
+use Rattle.hunt_bracket.specs.declared.Fate.the-variants.{OutsideA, OutsideB, Double, Hit}
+use Rattle.hunt_bracket.specs.Frame.{value}
 use Rattle.hunt.specs.Cells.{sample, brackets, cell, firstCells, bracketed}
-use Rattle.one_bracket.specs.Narrow.{opened, middles, last}
-use Rattle.one_bracket.specs.Fate.{fate, kept}
-use Rattle.hunt.specs.Outcome.{Outcome, Small, tally, none, look, settle, angles, resolve, visit, visits, scanned, fates, further}
-use Rattle.one_bracket.proofs.Halvings.{middles-length}
+use Rattle.hunt_bracket.specs.Narrow.{opened, middles, last}
+use Rattle.hunt_bracket.specs.Fate.{fate, kept}
+use Rattle.hits.specs.Outcome.{Outcome, tally, none}
+use Rattle.hunt.specs.Visits.{Small, look, settle, angles, resolve, visit, visits, scanned, fates, further}
+use Rattle.hunt_bracket.proofs.Halvings.{middles-length}
 
 -- ---- one look, one bracket
 pub look-counts : (o : Outcome) (ts : List Float) (n : ℕ) → n ≡ length ts → further n (tally o) ≡ tally (look ts o)

@@ -10,10 +10,10 @@ use lib.Ieee.{Float, binary64, ofInt, lt, eq}
 use Rattle.laws.specs.Rounded.{_⊕_, _⊖_, _⊗_}
 use Rattle.laws.specs.Literal.{zero}
 use Rattle.scalar.specs.Angles.{tau}
-use Rattle.arc.specs.declared.Arc.{Arc}
-use Rattle.one_bracket.specs.declared.Frame.{Frame}
-use Rattle.one_bracket.specs.declared.Cell.{Cell}
-use Rattle.one_bracket.specs.Frame.{value}
+use Rattle.curves.specs.declared.Arc.{Arc}
+use Rattle.hunt_bracket.specs.declared.Frame.{Frame}
+use Rattle.hunt_bracket.specs.declared.Cell.{Cell}
+use Rattle.hunt_bracket.specs.Frame.{value}
 
 abbrev pub cells : ℕ → ℕ
 cells k = 256 * 2 ^ k

@@ -8,14 +8,15 @@ use lib.Ieee.{Float, lt}
 use Rattle.laws.specs.Literal.{ten⁻¹², ten⁻¹⁵}
 use Rattle.laws.specs.Size.{abs}
 use Rattle.laws.specs.Part.{part}
-use Rattle.arc.specs.declared.Arc.{Arc}
-use Rattle.arc.specs.declared.Radii.{Radii}
+use Rattle.curves.specs.declared.Arc.{Arc}
+use Rattle.curves.specs.declared.Radii.{Radii}
 use Rattle.arc.specs.Frame.{arcRadii}
 use Rattle.hits.specs.Hit.{written}
-use Rattle.hunt.specs.declared.Tally.{Tally}
-use Rattle.one_bracket.specs.Frame.{frame}
+use Rattle.hits.specs.declared.Tally.{Tally}
+use Rattle.hunt_bracket.specs.Frame.{frame}
 use Rattle.hunt.specs.Cells.{cells, span}
-use Rattle.hunt.specs.Outcome.{Outcome, tally, none, scanned}
+use Rattle.hits.specs.Outcome.{Outcome, tally, none}
+use Rattle.hunt.specs.Visits.{scanned}
 
 -- `rb_a < 1e-12 || rb_b < 1e-12`, `step.abs() < 1e-15`
 unfoldable pub early : Radii → Float → Bool

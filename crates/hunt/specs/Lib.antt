@@ -1,4 +1,4 @@
 -- What the contracts of the crate cite.
 pub mod Cells
-pub mod Outcome
+pub mod Visits
 pub mod Hunt

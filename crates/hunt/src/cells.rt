@@ -3,7 +3,7 @@ ghost use mathlib.Core.Path.{_≡_};
 ghost use Prim.Native.Nat.{_≤_};
 ghost use Rattle.laws.specs.Part.{part};
 ghost use Rattle.hunt.specs.Cells.{cells, span, sample, bracket};
-use arc::Arc;
+use curves::Arc;
 use scalar::TAU;
 
 // Depth k has 256 * 2^k cells.

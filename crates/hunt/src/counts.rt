@@ -1,9 +1,10 @@
 // The counts of a hunt.
 ghost use mathlib.Core.Path.{_≡_};
 ghost use Prim.Native.Nat.{_<_, _+_, _^_};
-ghost use Rattle.hunt.specs.Outcome.{Outcome, Small, tally, none, settle, further};
-use crate::Tally;
-use one_bracket::Fate;
+ghost use Rattle.hits.specs.Outcome.{Outcome, tally, none};
+ghost use Rattle.hunt.specs.Visits.{Small, settle, further};
+use hits::Tally;
+use hunt_bracket::Fate;
 
 // Nothing is sampled.
 pub fn none() -> Tally

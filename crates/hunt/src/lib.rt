@@ -10,26 +10,18 @@ ghost use lib.ListN.{length};
 ghost use lib.Ieee.{Float};
 ghost use Rattle.hits.specs.Hit.{hitSize, written};
 ghost use Rattle.hunt.specs.Cells.{cells};
-ghost use Rattle.hunt.specs.Outcome.{Outcome, Small, tally, visit, scanned};
+ghost use Rattle.hits.specs.Outcome.{Outcome, tally};
+ghost use Rattle.hunt.specs.Visits.{Small, visit, scanned};
 ghost use Rattle.hunt.specs.Hunt.{early, Hunted};
-use arc::Arc;
 pub use cells::bracket;
 pub use cells::sample;
-use one_bracket::Cell;
-use one_bracket::Frame;
-use one_bracket::framed;
-use one_bracket::narrow;
-use one_bracket::value;
-
-// What a hunt counts. The four fates, hits among them, add up to the brackets.
-pub struct Tally {
-    pub hits: usize,
-    pub brackets: u32,
-    pub outside_a: u32,
-    pub outside_b: u32,
-    pub doubles: u32,
-    pub evaluations: u32,
-}
+use curves::Arc;
+use hits::Tally;
+use hunt_bracket::Cell;
+use hunt_bracket::Frame;
+use hunt_bracket::framed;
+use hunt_bracket::narrow;
+use hunt_bracket::value;
 
 // One cell: the tally goes in and comes back, a hit goes to the room.
 pub fn visit(f: Frame, c: Cell, t: Tally, room: &mut [f64]) -> Tally

@@ -6,12 +6,13 @@ ghost use lib.ListN.{length};
 ghost use lib.Ieee.{Float};
 ghost use Rattle.hits.specs.declared.CurveHit.{CurveHit};
 ghost use Rattle.hits.specs.Hit.{hitSize, written};
-ghost use Rattle.one_bracket.specs.Fate.{fate, kept};
-ghost use Rattle.hunt.specs.Outcome.{Outcome, Small, tally, settle};
-use crate::Tally;
-use one_bracket::Fate;
-use one_bracket::Frame;
-use one_bracket::fates::fate;
+ghost use Rattle.hunt_bracket.specs.Fate.{fate, kept};
+ghost use Rattle.hits.specs.Outcome.{Outcome, tally};
+ghost use Rattle.hunt.specs.Visits.{Small, settle};
+use hits::Tally;
+use hunt_bracket::Fate;
+use hunt_bracket::Frame;
+use hunt_bracket::fates::fate;
 
 // Writes a hit after the first n, and nothing for the other fates.
 fn keep(room: &mut [f64], n: usize, d: Fate)

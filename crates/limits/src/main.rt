@@ -1,10 +1,10 @@
 // The drawings and limits of document 01 that are run: one line a case. stdout has the lines that are right.
-use arc::Arc;
-use arc::Point;
 use arcs::Curve;
 use arcs::Found;
 use arcs::Hunted;
 use arcs::Number;
+use curves::Arc;
+use curves::Point;
 use libc::STDOUT_FILENO;
 
 fn print(words: &[u8]) {
@@ -172,7 +172,7 @@ fn run_gasket() {
     );
     print_hunted(
         b"as curves: ",
-        arcs::intersect(Curve::Bow(hole()), Curve::Bow(flange()), 0, &mut room),
+        arcs::intersect(Curve::Arc(hole()), Curve::Arc(flange()), 0, &mut room),
     );
     print_hunted(
         b"room of 1023: ",

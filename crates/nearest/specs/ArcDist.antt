@@ -1,8 +1,8 @@
 -- 000, `point_to_arc_dist`: an ellipse, a full circle or a partial arc. Definitions only. Assumes nothing.
 use mathlib.Core.Bool.{cond}
 use Rattle.laws.specs.Rounded.{_⊖_}
-use Rattle.arc.specs.declared.Point.{Point}
-use Rattle.arc.specs.declared.Arc.{Arc}
+use Rattle.curves.specs.declared.Point.{Point}
+use Rattle.curves.specs.declared.Arc.{Arc}
 use Rattle.nearest.specs.declared.Near.{Near}
 use Rattle.nearest.specs.EllipseDist.{pointToEllipseDist}
 use Rattle.nearest.specs.CircleDist.{wholeDist, partDist}

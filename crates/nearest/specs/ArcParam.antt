@@ -11,8 +11,8 @@ use Rattle.scalar.specs.Angles.{tau}
 use Rattle.scalar.specs.Extremes.{minimum, maximum}
 use Rattle.scalar.specs.Clamp.{clamp}
 use Rattle.arctan.specs.Rule.{arctangent}
-use Rattle.arc.specs.declared.Point.{Point}
-use Rattle.arc.specs.declared.Arc.{Arc}
+use Rattle.curves.specs.declared.Point.{Point}
+use Rattle.curves.specs.declared.Arc.{Arc}
 use Rattle.arc.specs.declared.InSpan.{InSpan}
 use Rattle.arc.specs.declared.InSpan.the-variants.{At, Outside}
 use Rattle.arc.specs.ArcPoint.{arcStartPos, arcEndPos}

@@ -8,11 +8,11 @@ use Rattle.laws.specs.Size.{abs}
 use Rattle.root.specs.Norm.{norm}
 use Rattle.sine.specs.Rule.{sine, cosine}
 use Rattle.arctan.specs.Rule.{arctangent}
-use Rattle.arc.specs.declared.Point.{Point}
-use Rattle.arc.specs.declared.Arc.{Arc}
+use Rattle.curves.specs.declared.Point.{Point}
+use Rattle.curves.specs.declared.Arc.{Arc}
 use Rattle.arc.specs.ArcPoint.{arcStartPos, arcEndPos}
 use Rattle.arc.specs.Span.{normTau}
-use Rattle.line.specs.Project.{distance}
+use Rattle.segments.specs.Project.{distance}
 use Rattle.nearest.specs.declared.Near.{Near}
 
 -- `((dist_to_center - r).abs(), proj)`, d being the distance to the center

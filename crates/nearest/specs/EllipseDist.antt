@@ -5,10 +5,10 @@ use lib.Ieee.{Float, lt}
 use Rattle.laws.specs.Rounded.{_⊕_, _⊖_}
 use Rattle.scalar.specs.Angles.{tau}
 use Rattle.scalar.specs.Extremes.{minimum, maximum}
-use Rattle.arc.specs.declared.Point.{Point}
-use Rattle.arc.specs.declared.Arc.{Arc}
+use Rattle.curves.specs.declared.Point.{Point}
+use Rattle.curves.specs.declared.Arc.{Arc}
 use Rattle.arc.specs.ArcPoint.{arcPointAt, arcStartPos, arcEndPos}
-use Rattle.line.specs.Project.{distance}
+use Rattle.segments.specs.Project.{distance}
 use Rattle.nearest.specs.declared.Near.{Near}
 use Rattle.nearest.specs.Samples.{bestOf}
 use Rattle.nearest.specs.Newton.{newton}

@@ -6,8 +6,8 @@ use Rattle.laws.specs.Rounded.{_⊕_, _⊖_, _⊗_, _⊘_}
 use Rattle.laws.specs.Literal.{two, four, ten⁻⁶, ten⁻²⁰}
 use Rattle.laws.specs.Size.{abs}
 use Rattle.scalar.specs.Clamp.{clamp}
-use Rattle.arc.specs.declared.Point.{Point}
-use Rattle.arc.specs.declared.Arc.{Arc}
+use Rattle.curves.specs.declared.Point.{Point}
+use Rattle.curves.specs.declared.Arc.{Arc}
 use Rattle.arc.specs.ArcPoint.{arcPointAt}
 use Rattle.nearest.specs.declared.newton.Slopes.{Slopes}
 use Rattle.nearest.specs.Squared.{squaredDist}

@@ -6,8 +6,8 @@ use lib.IntN.{pos}
 use lib.Ieee.{Float, binary64, ofInt, lt}
 use Rattle.laws.specs.Rounded.{_⊕_, _⊗_, _⊘_}
 use Rattle.laws.specs.Literal.{largest}
-use Rattle.arc.specs.declared.Point.{Point}
-use Rattle.arc.specs.declared.Arc.{Arc}
+use Rattle.curves.specs.declared.Point.{Point}
+use Rattle.curves.specs.declared.Arc.{Arc}
 use Rattle.arc.specs.ArcPoint.{arcPointAt}
 use Rattle.nearest.specs.declared.samples.Best.{Best}
 use Rattle.nearest.specs.Squared.{squaredDist}

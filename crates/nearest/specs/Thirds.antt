@@ -4,8 +4,8 @@ use mathlib.Core.Bool.{cond}
 use lib.Ieee.{lt}
 use Rattle.laws.specs.Rounded.{_⊕_, _⊖_, _⊘_}
 use Rattle.laws.specs.Literal.{three}
-use Rattle.arc.specs.declared.Point.{Point}
-use Rattle.arc.specs.declared.Arc.{Arc}
+use Rattle.curves.specs.declared.Point.{Point}
+use Rattle.curves.specs.declared.Arc.{Arc}
 use Rattle.arc.specs.ArcPoint.{arcPointAt}
 use Rattle.nearest.specs.declared.thirds.Stretch.{Stretch}
 use Rattle.nearest.specs.Squared.{squaredDist}

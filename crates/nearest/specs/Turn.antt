@@ -2,7 +2,7 @@
 use mathlib.Core.Path.{_≡_}
 use Rattle.sine.specs.declared.SinCos.{SinCos}
 use Rattle.sine.specs.Rule.{sine, cosine}
-use Rattle.arc.specs.declared.Arc.{Arc}
+use Rattle.curves.specs.declared.Arc.{Arc}
 
 -- turn is the sine and the cosine of a's rotation
 abbrev pub Turn : Arc → SinCos → Type 0

@@ -3,8 +3,8 @@ ghost use mathlib.Core.Path.{_≡_};
 ghost use Rattle.nearest.specs.CircleDist.{onRay, wholeDist, inRange, endDist, partDist};
 use crate::Near;
 use crate::points;
-use arc::Arc;
-use arc::Point;
+use curves::Arc;
+use curves::Point;
 
 // The circle's point in the direction of a point that is d from the center.
 fn on_ray(a: Arc, dx: f64, dy: f64, d: f64) -> Near
@@ -59,8 +59,8 @@ fn end_dist(p: Point, a: Arc) -> Near
     let turn = sine::sin_cos(a.rotation);
     let sp = points::point(a, turn, a.start);
     let ep = points::point(a, turn, a.end);
-    let ds = line::distance(p, sp);
-    let de = line::distance(p, ep);
+    let ds = segments::distance(p, sp);
+    let de = segments::distance(p, ep);
     if ds < de {
         return Near { dist: ds, pos: sp };
     }

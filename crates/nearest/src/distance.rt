@@ -4,8 +4,8 @@ ghost use Rattle.nearest.specs.ArcDist.{pointToArcDist};
 use crate::Near;
 use crate::circle;
 use crate::ellipse;
-use arc::Arc;
-use arc::Point;
+use curves::Arc;
+use curves::Point;
 
 pub fn point_to_arc_dist(p: Point, a: Arc) -> Near
     ensures { λ r. ⌜ r ≡ pointToArcDist p a ⌝ }

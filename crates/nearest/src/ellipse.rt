@@ -5,17 +5,17 @@ use crate::Near;
 use crate::newton;
 use crate::points;
 use crate::samples;
-use arc::Arc;
-use arc::Point;
+use curves::Arc;
+use curves::Point;
 use scalar::TAU;
 
 // An end is taken only where it is strictly nearer.
 fn nearest_of(p: Point, sp: Point, ep: Point, nearest: Point) -> Near
     ensures { λ r. ⌜ r ≡ nearestOf p sp ep nearest ⌝ }
 {
-    let dist = line::distance(p, nearest);
-    let ds = line::distance(p, sp);
-    let de = line::distance(p, ep);
+    let dist = segments::distance(p, nearest);
+    let ds = segments::distance(p, sp);
+    let de = segments::distance(p, ep);
     if (ds < dist) & (ds < de) {
         return Near { dist: ds, pos: sp };
     }

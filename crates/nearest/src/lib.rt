@@ -8,7 +8,7 @@ mod points;
 mod samples;
 mod thirds;
 
-use arc::Point;
+use curves::Point;
 pub use distance::point_to_arc_dist;
 pub use param::nearest_arc_param;
 

@@ -5,9 +5,9 @@ use crate::points;
 use crate::samples;
 use crate::thirds;
 use crate::thirds::Stretch;
-use arc::Arc;
 use arc::InSpan;
-use arc::Point;
+use curves::Arc;
+use curves::Point;
 use scalar::TAU;
 
 // The start, where both ends are equally far.

@@ -3,8 +3,8 @@ ghost use mathlib.Core.Path.{_≡_};
 ghost use Rattle.arc.specs.ArcPoint.{arcPointAt};
 ghost use Rattle.nearest.specs.Turn.{Turn};
 ghost use Rattle.nearest.specs.Squared.{squaredDist};
-use arc::Arc;
-use arc::Point;
+use curves::Arc;
+use curves::Point;
 use sine::SinCos;
 
 // The point of a at the angle t. The rotation's sine and cosine come from the caller, who asks for many points.

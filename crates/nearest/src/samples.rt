@@ -4,8 +4,8 @@ ghost use Prim.Native.Nat.{_≤_};
 ghost use Rattle.nearest.specs.Turn.{Turn};
 ghost use Rattle.nearest.specs.Samples.{sample, closer, bestOf};
 use crate::points;
-use arc::Arc;
-use arc::Point;
+use curves::Arc;
+use curves::Point;
 use sine::SinCos;
 
 // Rust's f64::MAX.

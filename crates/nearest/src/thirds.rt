@@ -3,8 +3,8 @@ ghost use mathlib.Core.Path.{_≡_};
 ghost use Rattle.nearest.specs.Turn.{Turn};
 ghost use Rattle.nearest.specs.Thirds.{shrunk, thirds};
 use crate::points;
-use arc::Arc;
-use arc::Point;
+use curves::Arc;
+use curves::Point;
 use sine::SinCos;
 
 pub struct Stretch {

@@ -5,9 +5,9 @@ use Rattle.arcs_c.proofs.arcs_sin_cos.Tie as tie
 
 returns : tie.Need-returns
 returns c =
-    let give = c .before .before in
-    let sin-cos = give .before .before .before in
-    let found = sin-cos .sin-cos .ensures in rw (← found .0, ← found .1) (give .give .ensures)
+    let write = c .before .before in
+    let sin-cos = write .before .before .before in
+    let found = sin-cos .sin-cos .ensures in rw (← found .0, ← found .1) (write .write .ensures)
 
 pub arcs-sin-cos-spec : {M : Type 1} → statement M
 arcs-sin-cos-spec =

@@ -6,7 +6,7 @@ use native.Mathlib.Omega.{arith}
 use lib.Pow.{pow-mono}
 use Rattle.hits.proofs.Rooms.{written-none}
 use Rattle.hunt.specs.Cells.{span}
-use Rattle.hunt.specs.Outcome.{scanned}
+use Rattle.hunt.specs.Visits.{scanned}
 use Rattle.hunt.specs.Hunt.{early, hunted}
 use Rattle.hunt.proofs.Hunts.{hunted-test, hunted-early, hunted-on}
 use borrow.Author.Needs.{needs}

@@ -6,10 +6,11 @@ use native.Mathlib.Omega.{arith}
 use lib.ListN.{length}
 use Rattle.hits.specs.Hit.{written}
 use Rattle.hits.proofs.Rooms.{written-none}
-use Rattle.one_bracket.specs.declared.Cell.{Cell}
-use Rattle.one_bracket.specs.Frame.{value}
+use Rattle.hunt_bracket.specs.declared.Cell.{Cell}
+use Rattle.hunt_bracket.specs.Frame.{value}
 use Rattle.hunt.specs.Cells.{sample}
-use Rattle.hunt.specs.Outcome.{Outcome, tally, none, further, visit, scanned}
+use Rattle.hits.specs.Outcome.{Outcome, tally, none}
+use Rattle.hunt.specs.Visits.{further, visit, scanned}
 use Rattle.hunt.proofs.Outcomes.{look-counts, scanned-none, scanned-more, scanned-small, cell-is}
 use borrow.Author.Needs.{needs}
 use Rattle.hunt.proofs.scan.Statement.{statement}

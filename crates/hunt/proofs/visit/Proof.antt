@@ -2,7 +2,8 @@
 use mathlib.Core.Path.{_≡_, refl, sym, ap, _∙_}
 use mathlib.Core.List.{[], _∷_}
 use native.Mathlib.Omega.{arith}
-use Rattle.hunt.specs.Outcome.{tally, look, further, angles, resolve, visit}
+use Rattle.hits.specs.Outcome.{tally}
+use Rattle.hunt.specs.Visits.{look, further, angles, resolve, visit}
 use Rattle.hunt.proofs.Outcomes.{look-counts, angles-length}
 use borrow.Author.Needs.{needs}
 use Rattle.hunt.proofs.visit.Statement.{statement}

@@ -2,8 +2,8 @@
 use mathlib.Core.Path.{refl}
 use borrow.Author.Tests.{lt-ltb, le-ltb}
 use native.Mathlib.Nat.{le-trans}
-use Rattle.lent.specs.Lent.{placed}
-use Rattle.lent.proofs.Rooms.{part-short}
+use Rattle.export_numbers.specs.Lent.{placed}
+use Rattle.export_numbers.proofs.Rooms.{part-short}
 use borrow.Author.Needs.{needs}
 use Rattle.arcs_c.proofs.closed.arcs_hit.Statement.{statement}
 use Rattle.arcs_c.proofs.closed.arcs_hit.Tie as tie

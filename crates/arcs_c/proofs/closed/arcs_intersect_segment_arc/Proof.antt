@@ -1,7 +1,7 @@
 -- `arcs_c::closed::arcs_intersect_segment_arc` meets its contract. Assumes nothing.
 use native.Mathlib.Omega.{arith}
-use Rattle.lent.proofs.Rooms.{hits-out, hits-short, refusal-short}
-use Rattle.queries.specs.Asked.{segmentArcAsked}
+use Rattle.export_numbers.proofs.Rooms.{hits-out, hits-short, refusal-short}
+use Rattle.calls_crossings.specs.Answers.{segmentArcAnswer}
 use borrow.Author.Needs.{needs}
 use Rattle.arcs_c.proofs.closed.arcs_intersect_segment_arc.Statement.{statement}
 use Rattle.arcs_c.proofs.closed.arcs_intersect_segment_arc.Tie as tie
@@ -12,7 +12,7 @@ returns c =
     let test = intersect-segment-arc .before .before in
     let arc = test .before in
     rw (c .found-refusal .ensures, ← arc .arc .ensures)
-    (hits-short (segmentArcAsked _ _ _) (intersect-segment-arc .intersect-segment-arc .ensures) (refusal-short _ _ _ _ _ (omega arith))
+    (hits-short (segmentArcAnswer _ _ _) (intersect-segment-arc .intersect-segment-arc .ensures) (refusal-short _ _ _ _ _ (omega arith))
     (test .if1 .taken))
 
 returns-2 : tie.Need-returns-2
@@ -23,7 +23,7 @@ returns-2 c =
     let test = intersect-segment-arc2 .before .before in
     let arc = test .before in
     rw (c .found-refusal2 .ensures, ← arc .arc .ensures)
-    (hits-out (segmentArcAsked _ _ _) (intersect-segment-arc2 .intersect-segment-arc2 .ensures)
+    (hits-out (segmentArcAnswer _ _ _) (intersect-segment-arc2 .intersect-segment-arc2 .ensures)
     (test .if1 .left)
     (count-found .count-found .ensures))
 

@@ -1,7 +1,7 @@
 -- `arcs_c::closed::arcs_intersect_segments` meets its contract. Assumes nothing.
 use native.Mathlib.Omega.{arith}
-use Rattle.lent.proofs.Rooms.{hits-out, hits-short, refusal-short}
-use Rattle.queries.specs.Asked.{segmentsAsked}
+use Rattle.export_numbers.proofs.Rooms.{hits-out, hits-short, refusal-short}
+use Rattle.calls_crossings.specs.Answers.{segmentsAnswer}
 use borrow.Author.Needs.{needs}
 use Rattle.arcs_c.proofs.closed.arcs_intersect_segments.Statement.{statement}
 use Rattle.arcs_c.proofs.closed.arcs_intersect_segments.Tie as tie
@@ -11,7 +11,7 @@ returns c =
     let intersect-segments = c .before .before in
     let test = intersect-segments .before .before in
     rw (c .found-refusal .ensures)
-    (hits-short (segmentsAsked _ _ _ _) (intersect-segments .intersect-segments .ensures) (refusal-short _ _ _ _ _ (omega arith))
+    (hits-short (segmentsAnswer _ _ _ _) (intersect-segments .intersect-segments .ensures) (refusal-short _ _ _ _ _ (omega arith))
     (test .if1 .taken))
 
 returns-2 : tie.Need-returns-2
@@ -21,7 +21,7 @@ returns-2 c =
     let intersect-segments2 = room .before in
     let test = intersect-segments2 .before .before in
     rw (c .found-refusal2 .ensures)
-    (hits-out (segmentsAsked _ _ _ _) (intersect-segments2 .intersect-segments2 .ensures)
+    (hits-out (segmentsAnswer _ _ _ _) (intersect-segments2 .intersect-segments2 .ensures)
     (test .if1 .left)
     (count-found .count-found .ensures))
 

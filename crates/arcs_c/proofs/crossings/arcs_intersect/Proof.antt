@@ -1,6 +1,6 @@
 -- `arcs_c::crossings::arcs_intersect` meets its contract. Assumes nothing.
-use Rattle.lent.proofs.Rooms.{hits-out, hits-short, refusal-short, curves-need}
-use Rattle.queries.specs.Asked.{curvesAsked}
+use Rattle.export_numbers.proofs.Rooms.{hits-out, hits-short, refusal-short, curves-need}
+use Rattle.calls_curves.specs.Curves.{curvesAnswer}
 use borrow.Author.Needs.{needs}
 use Rattle.arcs_c.proofs.crossings.arcs_intersect.Statement.{statement}
 use Rattle.arcs_c.proofs.crossings.arcs_intersect.Tie as tie
@@ -17,7 +17,7 @@ returns c =
     let q = curve2 .curve2 .result in
     let depth = start .args .depth in
     rw (c .hunted-refusal .ensures, ← curve .curve .ensures, ← curve2 .curve2 .ensures)
-    (hits-short (curvesAsked p q depth) (intersect .intersect .ensures) (refusal-short _ _ _ _ _ (curves-need p q depth))
+    (hits-short (curvesAnswer p q depth) (intersect .intersect .ensures) (refusal-short _ _ _ _ _ (curves-need p q depth))
     (test .if1 .taken))
 
 returns-2 : tie.Need-returns-2
@@ -34,7 +34,7 @@ returns-2 c =
     let q = curve2 .curve2 .result in
     let depth = start .args .depth in
     rw (c .hunted-refusal2 .ensures, ← curve .curve .ensures, ← curve2 .curve2 .ensures)
-    (hits-out (curvesAsked p q depth) (intersect2 .intersect2 .ensures)
+    (hits-out (curvesAnswer p q depth) (intersect2 .intersect2 .ensures)
     (test .if1 .left)
     (count-hunted .count-hunted .ensures))
 

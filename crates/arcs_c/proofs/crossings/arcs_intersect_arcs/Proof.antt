@@ -1,6 +1,6 @@
 -- `arcs_c::crossings::arcs_intersect_arcs` meets its contract. Assumes nothing.
-use Rattle.lent.proofs.Rooms.{hits-out, hits-short, refusal-short, pair-needs}
-use Rattle.queries.specs.Asked.{arcsAsked}
+use Rattle.export_numbers.proofs.Rooms.{hits-out, hits-short, refusal-short, pair-needs}
+use Rattle.calls_crossings.specs.Answers.{arcsAnswer}
 use borrow.Author.Needs.{needs}
 use Rattle.arcs_c.proofs.crossings.arcs_intersect_arcs.Statement.{statement}
 use Rattle.arcs_c.proofs.crossings.arcs_intersect_arcs.Tie as tie
@@ -12,7 +12,7 @@ returns c =
     let arc2 = test .before in
     let arc = arc2 .before in
     rw (c .hunted-refusal .ensures, ← arc .arc .ensures, ← arc2 .arc2 .ensures)
-    (hits-short (arcsAsked _ _ _) (intersect-arcs .intersect-arcs .ensures) (refusal-short _ _ _ _ _ (pair-needs _ _ _))
+    (hits-short (arcsAnswer _ _ _) (intersect-arcs .intersect-arcs .ensures) (refusal-short _ _ _ _ _ (pair-needs _ _ _))
     (test .if1 .taken))
 
 returns-2 : tie.Need-returns-2
@@ -24,7 +24,7 @@ returns-2 c =
     let arc2 = test .before in
     let arc = arc2 .before in
     rw (c .hunted-refusal2 .ensures, ← arc .arc .ensures, ← arc2 .arc2 .ensures)
-    (hits-out (arcsAsked _ _ _) (intersect-arcs2 .intersect-arcs2 .ensures)
+    (hits-out (arcsAnswer _ _ _) (intersect-arcs2 .intersect-arcs2 .ensures)
     (test .if1 .left)
     (count-hunted .count-hunted .ensures))
 

@@ -5,9 +5,9 @@ use Rattle.arcs_c.proofs.figures.arcs_circle_tangent_through.Tie as tie
 
 returns : tie.Need-returns
 returns c =
-    let give-tangent = c .before .before in
-    let circle-tangent-through = give-tangent .before .before in
-    rw (circle-tangent-through .circle-tangent-through .ensures) at (give-tangent .give-tangent .ensures)
+    let write-tangent = c .before .before in
+    let circle-tangent-through = write-tangent .before .before in
+    rw (circle-tangent-through .circle-tangent-through .ensures) at (write-tangent .write-tangent .ensures)
 
 pub arcs-circle-tangent-through-spec : {M : Type 1} → statement M
 arcs-circle-tangent-through-spec =

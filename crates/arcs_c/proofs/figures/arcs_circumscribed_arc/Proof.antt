@@ -5,9 +5,9 @@ use Rattle.arcs_c.proofs.figures.arcs_circumscribed_arc.Tie as tie
 
 returns : tie.Need-returns
 returns c =
-    let give-through = c .before .before in
-    let circumscribed-arc = give-through .before .before in
-    rw (circumscribed-arc .circumscribed-arc .ensures) at (give-through .give-through .ensures)
+    let write-through = c .before .before in
+    let circumscribed-arc = write-through .before .before in
+    rw (circumscribed-arc .circumscribed-arc .ensures) at (write-through .write-through .ensures)
 
 pub arcs-circumscribed-arc-spec : {M : Type 1} → statement M
 arcs-circumscribed-arc-spec =

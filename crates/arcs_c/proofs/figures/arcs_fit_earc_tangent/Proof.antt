@@ -5,9 +5,9 @@ use Rattle.arcs_c.proofs.figures.arcs_fit_earc_tangent.Tie as tie
 
 returns : tie.Need-returns
 returns c =
-    let give-fitted = c .before .before in
-    let fit-earc-tangent = give-fitted .before .before in
-    rw (fit-earc-tangent .fit-earc-tangent .ensures) at (give-fitted .give-fitted .ensures)
+    let write-fitted = c .before .before in
+    let fit-earc-tangent = write-fitted .before .before in
+    rw (fit-earc-tangent .fit-earc-tangent .ensures) at (write-fitted .write-fitted .ensures)
 
 pub arcs-fit-earc-tangent-spec : {M : Type 1} → statement M
 arcs-fit-earc-tangent-spec =

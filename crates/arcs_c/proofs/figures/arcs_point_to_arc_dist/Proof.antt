@@ -5,10 +5,10 @@ use Rattle.arcs_c.proofs.figures.arcs_point_to_arc_dist.Tie as tie
 
 returns : tie.Need-returns
 returns c =
-    let give-distance = c .before .before in
-    let point-to-arc-dist = give-distance .before .before in
+    let write-distance = c .before .before in
+    let point-to-arc-dist = write-distance .before .before in
     let arc = point-to-arc-dist .before in
-    rw (← arc .arc .ensures) (rw (point-to-arc-dist .point-to-arc-dist .ensures) at (give-distance .give-distance .ensures))
+    rw (← arc .arc .ensures) (rw (point-to-arc-dist .point-to-arc-dist .ensures) at (write-distance .write-distance .ensures))
 
 pub arcs-point-to-arc-dist-spec : {M : Type 1} → statement M
 arcs-point-to-arc-dist-spec =

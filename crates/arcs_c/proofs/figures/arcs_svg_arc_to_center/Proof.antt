@@ -5,9 +5,9 @@ use Rattle.arcs_c.proofs.figures.arcs_svg_arc_to_center.Tie as tie
 
 returns : tie.Need-returns
 returns c =
-    let give-center = c .before .before in
-    let svg-arc-to-center = give-center .before .before in
-    rw (svg-arc-to-center .svg-arc-to-center .ensures) at (give-center .give-center .ensures)
+    let write-center = c .before .before in
+    let svg-arc-to-center = write-center .before .before in
+    rw (svg-arc-to-center .svg-arc-to-center .ensures) at (write-center .write-center .ensures)
 
 pub arcs-svg-arc-to-center-spec : {M : Type 1} → statement M
 arcs-svg-arc-to-center-spec =

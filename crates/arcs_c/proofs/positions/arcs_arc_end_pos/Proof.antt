@@ -5,10 +5,10 @@ use Rattle.arcs_c.proofs.positions.arcs_arc_end_pos.Tie as tie
 
 returns : tie.Need-returns
 returns c =
-    let give-pair = c .before .before in
-    let arc-end-pos = give-pair .before .before in
+    let write-pair = c .before .before in
+    let arc-end-pos = write-pair .before .before in
     let arc = arc-end-pos .before in
-    rw (← arc .arc .ensures) (rw (arc-end-pos .arc-end-pos .ensures) at (give-pair .give-pair .ensures))
+    rw (← arc .arc .ensures) (rw (arc-end-pos .arc-end-pos .ensures) at (write-pair .write-pair .ensures))
 
 pub arcs-arc-end-pos-spec : {M : Type 1} → statement M
 arcs-arc-end-pos-spec =

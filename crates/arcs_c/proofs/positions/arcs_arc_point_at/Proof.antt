@@ -5,10 +5,10 @@ use Rattle.arcs_c.proofs.positions.arcs_arc_point_at.Tie as tie
 
 returns : tie.Need-returns
 returns c =
-    let give-pair = c .before .before in
-    let arc-point-at = give-pair .before .before in
+    let write-pair = c .before .before in
+    let arc-point-at = write-pair .before .before in
     let arc = arc-point-at .before in
-    rw (← arc .arc .ensures) (rw (arc-point-at .arc-point-at .ensures) at (give-pair .give-pair .ensures))
+    rw (← arc .arc .ensures) (rw (arc-point-at .arc-point-at .ensures) at (write-pair .write-pair .ensures))
 
 pub arcs-arc-point-at-spec : {M : Type 1} → statement M
 arcs-arc-point-at-spec =

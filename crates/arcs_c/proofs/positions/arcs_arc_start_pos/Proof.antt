@@ -5,10 +5,10 @@ use Rattle.arcs_c.proofs.positions.arcs_arc_start_pos.Tie as tie
 
 returns : tie.Need-returns
 returns c =
-    let give-pair = c .before .before in
-    let arc-start-pos = give-pair .before .before in
+    let write-pair = c .before .before in
+    let arc-start-pos = write-pair .before .before in
     let arc = arc-start-pos .before in
-    rw (← arc .arc .ensures) (rw (arc-start-pos .arc-start-pos .ensures) at (give-pair .give-pair .ensures))
+    rw (← arc .arc .ensures) (rw (arc-start-pos .arc-start-pos .ensures) at (write-pair .write-pair .ensures))
 
 pub arcs-arc-start-pos-spec : {M : Type 1} → statement M
 arcs-arc-start-pos-spec =

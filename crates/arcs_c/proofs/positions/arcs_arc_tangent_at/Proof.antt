@@ -5,10 +5,10 @@ use Rattle.arcs_c.proofs.positions.arcs_arc_tangent_at.Tie as tie
 
 returns : tie.Need-returns
 returns c =
-    let give-pair = c .before .before in
-    let arc-tangent-at = give-pair .before .before in
+    let write-pair = c .before .before in
+    let arc-tangent-at = write-pair .before .before in
     let arc = arc-tangent-at .before in
-    rw (← arc .arc .ensures) (rw (arc-tangent-at .arc-tangent-at .ensures) at (give-pair .give-pair .ensures))
+    rw (← arc .arc .ensures) (rw (arc-tangent-at .arc-tangent-at .ensures) at (write-pair .write-pair .ensures))
 
 pub arcs-arc-tangent-at-spec : {M : Type 1} → statement M
 arcs-arc-tangent-at-spec =

@@ -5,9 +5,9 @@ use Rattle.arcs_c.proofs.positions.arcs_ellipse_point.Tie as tie
 
 returns : tie.Need-returns
 returns c =
-    let give-pair = c .before .before in
-    let ellipse-point = give-pair .before .before in
-    rw (ellipse-point .ellipse-point .ensures) at (give-pair .give-pair .ensures)
+    let write-pair = c .before .before in
+    let ellipse-point = write-pair .before .before in
+    rw (ellipse-point .ellipse-point .ensures) at (write-pair .write-pair .ensures)
 
 pub arcs-ellipse-point-spec : {M : Type 1} → statement M
 arcs-ellipse-point-spec =

@@ -5,9 +5,9 @@ use Rattle.arcs_c.proofs.positions.arcs_ellipse_tangent.Tie as tie
 
 returns : tie.Need-returns
 returns c =
-    let give-pair = c .before .before in
-    let ellipse-tangent = give-pair .before .before in
-    rw (ellipse-tangent .ellipse-tangent .ensures) at (give-pair .give-pair .ensures)
+    let write-pair = c .before .before in
+    let ellipse-tangent = write-pair .before .before in
+    rw (ellipse-tangent .ellipse-tangent .ensures) at (write-pair .write-pair .ensures)
 
 pub arcs-ellipse-tangent-spec : {M : Type 1} → statement M
 arcs-ellipse-tangent-spec =

@@ -5,9 +5,9 @@ use Rattle.arcs_c.proofs.positions.arcs_line_line_intersection.Tie as t
 
 returns : tie.Need-returns
 returns c =
-    let give-pair = c .before .before in
-    let line-line-intersection = give-pair .before .before in
-    rw (line-line-intersection .line-line-intersection .ensures) at (give-pair .give-pair .ensures)
+    let write-pair = c .before .before in
+    let line-line-intersection = write-pair .before .before in
+    rw (line-line-intersection .line-line-intersection .ensures) at (write-pair .write-pair .ensures)
 
 pub arcs-line-line-intersection-spec : {M : Type 1} → statement M
 arcs-line-line-intersection-spec =

@@ -5,9 +5,9 @@ use Rattle.arcs_c.proofs.positions.arcs_point_to_segment_dist.Tie as ti
 
 returns : tie.Need-returns
 returns c =
-    let give-number = c .before .before in
-    let point-to-segment-dist = give-number .before .before in
-    rw (point-to-segment-dist .point-to-segment-dist .ensures) at (give-number .give-number .ensures)
+    let write-number = c .before .before in
+    let point-to-segment-dist = write-number .before .before in
+    rw (point-to-segment-dist .point-to-segment-dist .ensures) at (write-number .write-number .ensures)
 
 pub arcs-point-to-segment-dist-spec : {M : Type 1} → statement M
 arcs-point-to-segment-dist-spec =

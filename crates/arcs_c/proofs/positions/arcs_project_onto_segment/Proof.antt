@@ -5,9 +5,9 @@ use Rattle.arcs_c.proofs.positions.arcs_project_onto_segment.Tie as tie
 
 returns : tie.Need-returns
 returns c =
-    let give-pair = c .before .before in
-    let project-onto-segment = give-pair .before .before in
-    rw (project-onto-segment .project-onto-segment .ensures) at (give-pair .give-pair .ensures)
+    let write-pair = c .before .before in
+    let project-onto-segment = write-pair .before .before in
+    rw (project-onto-segment .project-onto-segment .ensures) at (write-pair .write-pair .ensures)
 
 pub arcs-project-onto-segment-spec : {M : Type 1} → statement M
 arcs-project-onto-segment-spec =

@@ -5,10 +5,10 @@ use Rattle.arcs_c.proofs.spans.arcs_arc_param_at_point.Tie as tie
 
 returns : tie.Need-returns
 returns c =
-    let give-number = c .before .before in
-    let arc-param-at-point = give-number .before .before in
+    let write-number = c .before .before in
+    let arc-param-at-point = write-number .before .before in
     let arc = arc-param-at-point .before in
-    rw (← arc .arc .ensures) (rw (arc-param-at-point .arc-param-at-point .ensures) at (give-number .give-number .ensures))
+    rw (← arc .arc .ensures) (rw (arc-param-at-point .arc-param-at-point .ensures) at (write-number .write-number .ensures))
 
 pub arcs-arc-param-at-point-spec : {M : Type 1} → statement M
 arcs-arc-param-at-point-spec =

@@ -5,10 +5,10 @@ use Rattle.arcs_c.proofs.spans.arcs_arc_param_in_span.Tie as tie
 
 returns : tie.Need-returns
 returns c =
-    let give-number = c .before .before in
-    let arc-param-in-span = give-number .before .before in
+    let write-number = c .before .before in
+    let arc-param-in-span = write-number .before .before in
     let arc = arc-param-in-span .before in
-    rw (← arc .arc .ensures) (rw (arc-param-in-span .arc-param-in-span .ensures) at (give-number .give-number .ensures))
+    rw (← arc .arc .ensures) (rw (arc-param-in-span .arc-param-in-span .ensures) at (write-number .write-number .ensures))
 
 pub arcs-arc-param-in-span-spec : {M : Type 1} → statement M
 arcs-arc-param-in-span-spec =

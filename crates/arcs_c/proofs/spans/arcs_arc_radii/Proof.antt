@@ -5,10 +5,10 @@ use Rattle.arcs_c.proofs.spans.arcs_arc_radii.Tie as tie
 
 returns : tie.Need-returns
 returns c =
-    let give-pair = c .before .before in
-    let arc-radii = give-pair .before .before in
+    let write-pair = c .before .before in
+    let arc-radii = write-pair .before .before in
     let arc = arc-radii .before in
-    rw (← arc .arc .ensures) (rw (arc-radii .arc-radii .ensures) at (give-pair .give-pair .ensures))
+    rw (← arc .arc .ensures) (rw (arc-radii .arc-radii .ensures) at (write-pair .write-pair .ensures))
 
 pub arcs-arc-radii-spec : {M : Type 1} → statement M
 arcs-arc-radii-spec =

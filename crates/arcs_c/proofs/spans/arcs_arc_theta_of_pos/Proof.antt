@@ -5,10 +5,10 @@ use Rattle.arcs_c.proofs.spans.arcs_arc_theta_of_pos.Tie as tie
 
 returns : tie.Need-returns
 returns c =
-    let give-number = c .before .before in
-    let arc-theta-of-pos = give-number .before .before in
+    let write-number = c .before .before in
+    let arc-theta-of-pos = write-number .before .before in
     let arc = arc-theta-of-pos .before in
-    rw (← arc .arc .ensures) (rw (arc-theta-of-pos .arc-theta-of-pos .ensures) at (give-number .give-number .ensures))
+    rw (← arc .arc .ensures) (rw (arc-theta-of-pos .arc-theta-of-pos .ensures) at (write-number .write-number .ensures))
 
 pub arcs-arc-theta-of-pos-spec : {M : Type 1} → statement M
 arcs-arc-theta-of-pos-spec =

@@ -5,10 +5,10 @@ use Rattle.arcs_c.proofs.spans.arcs_nearest_arc_param.Tie as tie
 
 returns : tie.Need-returns
 returns c =
-    let give-number = c .before .before in
-    let nearest-arc-param = give-number .before .before in
+    let write-number = c .before .before in
+    let nearest-arc-param = write-number .before .before in
     let arc = nearest-arc-param .before in
-    rw (← arc .arc .ensures) (rw (nearest-arc-param .nearest-arc-param .ensures) at (give-number .give-number .ensures))
+    rw (← arc .arc .ensures) (rw (nearest-arc-param .nearest-arc-param .ensures) at (write-number .write-number .ensures))
 
 pub arcs-nearest-arc-param-spec : {M : Type 1} → statement M
 arcs-nearest-arc-param-spec =

@@ -5,9 +5,9 @@ use Rattle.arcs_c.proofs.spans.arcs_norm_tau.Tie as tie
 
 returns : tie.Need-returns
 returns c =
-    let give-number = c .before .before in
-    let norm-tau = give-number .before .before in
-    rw (norm-tau .norm-tau .ensures) at (give-number .give-number .ensures)
+    let write-number = c .before .before in
+    let norm-tau = write-number .before .before in
+    rw (norm-tau .norm-tau .ensures) at (write-number .write-number .ensures)
 
 pub arcs-norm-tau-spec : {M : Type 1} → statement M
 arcs-norm-tau-spec =

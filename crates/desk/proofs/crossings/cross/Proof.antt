@@ -3,10 +3,10 @@ use mathlib.Core.Path.{_≡_, sym, ap, _∙_}
 use native.Mathlib.Omega.{arith}
 use lib.ListN.{length}
 use Rattle.hits.proofs.Rooms.{written-none}
-use Rattle.hunt.specs.declared.Tally.{Tally}
+use Rattle.hits.specs.declared.Tally.{Tally}
 use Rattle.digits.proofs.Spliced.{put-then}
-use Rattle.queries.specs.Curves.{curvesOutcome}
-use Rattle.printing.proofs.Lines.{within, hits-length}
+use Rattle.calls_curves.specs.Curves.{curvesOutcome}
+use Rattle.desk_print.proofs.Lines.{within, hits-length}
 use Rattle.desk.proofs.Told.{cross-counted, cross-told}
 use borrow.Author.Needs.{needs}
 use Rattle.desk.proofs.crossings.cross.Statement.{statement}

@@ -8,9 +8,9 @@ use lib.Ieee.{Float}
 use Rattle.hits.specs.declared.CurveHit.{CurveHit}
 use Rattle.hits.specs.Hit.{written}
 use Rattle.digits.proofs.Spliced.{Left, left-step, left-none}
-use Rattle.printing.specs.Printed.{hitLine, hitLines}
+use Rattle.desk_print.specs.Printed.{hitLine, hitLines}
 use Rattle.desk.specs.Hits.{hitAt}
-use Rattle.printing.proofs.Lines.{within, hit-length}
+use Rattle.desk_print.proofs.Lines.{within, hit-length}
 use Rattle.desk.proofs.Hits.{lines-step, lines-past}
 use Rattle.desk.proofs.crossings.put_hits.Statement.{statement}
 use Rattle.desk.proofs.crossings.put_hits.Tie as tie

@@ -7,7 +7,7 @@ use Rattle.desk.proofs.records.record_refusal.Tie as tie
 
 returns : tie.Need-returns
 unfolding recordRefusal
-returns c = rw (lt-ltb _ _ (c .before .before .before .if1 .taken), c .refusal .ensures, c .before .curve-faults .ensures, c .before .before .none .ensures)
+returns c = rw (lt-ltb _ _ (c .before .before .before .if1 .taken), c .refusal .ensures, c .before .curve .ensures, c .before .before .none .ensures)
 
 returns-2 : tie.Need-returns-2
 unfolding recordRefusal

@@ -1,7 +1,7 @@
 -- `settling::keep` writes a hit after those in the room. Assumes nothing.
 use mathlib.Core.List.{append-nil}
 use Rattle.hits.proofs.Rooms.{put-written}
-use Rattle.one_bracket.proofs.Rooms.{lent-fits}
+use Rattle.hunt_bracket.proofs.Rooms.{lent-fits}
 use borrow.Author.Needs.{needs}
 use Rattle.hunt.proofs.settling.keep.Statement.{statement}
 use Rattle.hunt.proofs.settling.keep.Tie as tie

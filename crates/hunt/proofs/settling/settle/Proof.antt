@@ -4,9 +4,10 @@ use mathlib.Core.List.{List}
 use lib.ListN.{length}
 use Rattle.hits.specs.declared.CurveHit.{CurveHit}
 use Rattle.hits.specs.Hit.{written}
-use Rattle.one_bracket.specs.declared.Fate.{Fate}
-use Rattle.hunt.specs.declared.Tally.{Tally}
-use Rattle.hunt.specs.Outcome.{tally, settle}
+use Rattle.hunt_bracket.specs.declared.Fate.{Fate}
+use Rattle.hits.specs.declared.Tally.{Tally}
+use Rattle.hits.specs.Outcome.{tally}
+use Rattle.hunt.specs.Visits.{settle}
 use Rattle.hunt.proofs.Outcomes.{settle-hits}
 use borrow.Author.Needs.{needs}
 use Rattle.hunt.proofs.settling.settle.Statement.{statement}

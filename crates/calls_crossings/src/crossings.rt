@@ -1,0 +1,105 @@
+// Crossings (parts 4 to 6): the hits go to the lent room.
+ghost use mathlib.Core.Path.{_≡_};
+ghost use Prim.Native.Nat.{_≤_, _/_};
+ghost use lib.ListN.{length};
+ghost use Rattle.hits.specs.Hit.{hitSize, written, hitPart};
+ghost use Rattle.hits.specs.Listed.{listed};
+ghost use Rattle.hits.specs.Outcome.{tally};
+ghost use Rattle.checks.specs.Answer.{foundTold, huntedTold};
+ghost use Rattle.calls_crossings.specs.Crossed.{Crosses};
+ghost use Rattle.calls_crossings.specs.Answers.{segmentsAnswer, segmentArcAnswer, arcsAnswer};
+ghost use Rattle.calls_crossings.specs.Need.{pairNeed};
+ghost use Rattle.hits.specs.Outcome.{closed};
+ghost use Rattle.calls_crossings.specs.Pairs.{pairOutcome};
+use checks::Found;
+use checks::Hunted;
+use curves::Arc;
+use curves::Point;
+use hits::Crossings;
+use hits::HIT;
+use hits::Tally;
+
+pub fn intersect_segments(a1: Point, a2: Point, b1: Point, b2: Point, room: &mut [f64]) -> Found
+    ensures { λ r. ⌜ Crosses (segmentsAnswer a1 a2 b1 b2) (now (room .entry)) (foundTold r) (now (room .exit)) ⌝ }
+{
+    let f = checks::point(
+        checks::point(checks::point(checks::point(checks::none(), a1), a2), b1),
+        b2,
+    );
+    let no = checks::refusal(f, 0, HIT, room.len());
+    if no == 0 {
+        let c = hits::one(segments::intersect_segments(a1, a2, b1, b2));
+        return Found::Hits(hits::write(room, c));
+    }
+    Found::Refused(no)
+}
+
+pub fn intersect_segment_arc(p1: Point, p2: Point, a: Arc, room: &mut [f64]) -> Found
+    ensures { λ r. ⌜ Crosses (segmentArcAnswer p1 p2 a) (now (room .entry)) (foundTold r) (now (room .exit)) ⌝ }
+{
+    let f = checks::arc(checks::point(checks::point(checks::none(), p1), p2), a);
+    let no = checks::refusal(f, 0, 2 * HIT, room.len());
+    if no == 0 {
+        let c = crossing::intersect_segment_arc(p1, p2, a);
+        return Found::Hits(hits::write(room, c));
+    }
+    Found::Refused(no)
+}
+
+// The closed form's crossings, as a hunt's counts with nothing sampled.
+pub fn closed(c: Crossings, room: &mut [f64]) -> Tally
+    requires { ⌜ length (listed c) ≤ length (now room) / hitSize ⌝ }
+    ensures { λ r. ⌜ (r ≡ tally (closed (listed c))) × (now (room .exit) ≡ written (listed c) (now (room .entry))) ⌝ }
+{
+    let n = hits::write(room, c);
+    Tally {
+        hits: n,
+        brackets: 0,
+        outside_a: 0,
+        outside_b: 0,
+        doubles: 0,
+        evaluations: 0,
+    }
+}
+
+// The need of a pair of arcs; past depth 3 the depth is refused before.
+pub fn need(a: Arc, b: Arc, depth: u32) -> usize
+    ensures { λ r. ⌜ (depth ≤ 3 → r ≡ pairNeed a b depth) ⌝ }
+{
+    if 3 < depth {
+        return 0;
+    }
+    if a.is_ellipse | b.is_ellipse {
+        return HIT * (hunt::cell_count(depth) as usize);
+    }
+    2 * HIT
+}
+
+// Two arcs whose numbers, depth and room are in order.
+pub fn pair(a: Arc, b: Arc, depth: u32, room: &mut [f64]) -> Tally
+    requires { ⌜ (depth ≤ 3) × (pairNeed a b depth ≤ length (now room)) ⌝ }
+    ensures { λ r. ⌜ (r ≡ tally (pairOutcome a b depth)) × (now (room .exit) ≡ written (pairOutcome a b depth .hits) (now (room .entry))) ⌝ }
+{
+    if a.is_ellipse | b.is_ellipse {
+        return hunt::hunt(a, b, depth, room);
+    }
+    closed(crossing::intersect_circle_circle(a, b), room)
+}
+
+pub fn intersect_arcs(a: Arc, b: Arc, depth: u32, room: &mut [f64]) -> Hunted
+    ensures { λ r. ⌜ Crosses (arcsAnswer a b depth) (now (room .entry)) (huntedTold r) (now (room .exit)) ⌝ }
+{
+    let f = checks::arc(checks::arc(checks::none(), a), b);
+    let no = checks::refusal(f, depth, need(a, b, depth), room.len());
+    if no == 0 {
+        return Hunted::Counts(pair(a, b, depth, room));
+    }
+    Hunted::Refused(no)
+}
+
+// The four numbers of the hit i of so many, as that part of the room.
+pub fn hit<'a>(room: &'a [f64], count: usize, i: usize) -> &'a [f64]
+    ensures { λ r. ⌜ now r ≡ hitPart (now (room .entry)) count i ⌝ }
+{
+    hits::hit(room, count, i)
+}

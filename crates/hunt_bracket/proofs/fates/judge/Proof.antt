@@ -1,0 +1,29 @@
+-- `settling::judge` tests in the order of 01. Assumes nothing.
+use borrow.Author.Needs.{needs}
+use Rattle.hunt_bracket.proofs.fates.judge.Statement.{statement}
+use Rattle.hunt_bracket.proofs.fates.judge.Tie as tie
+
+returns : tie.Need-returns
+returns c =
+    let b = c .before .before .before in
+    let a = b .before .before .before in
+    λ hs lent e w. rw (a .a .given .1, b .b .given .1, ← c .before .seen .ensures hs lent e w, c .if1 .taken)
+
+returns-2 : tie.Need-returns-2
+returns-2 c =
+    let b = c .before .before .before in
+    let a = b .before .before .before in
+    λ hs lent e w. rw (a .a .given .1, b .b .given .1, ← c .before .seen .ensures hs lent e w, c .if1 .left)
+
+returns-3 : tie.Need-returns-3
+returns-3 c = λ hs lent e w. rw (c .before .before .before .a .given .1, c .enum-told .given .1)
+
+returns-4 : tie.Need-returns-4
+returns-4 c = λ hs lent e w. rw (c .enum-told2 .given .1)
+
+pub judge-spec : {M : Type 1} → statement M
+judge-spec =
+    tie.close
+    (tie.spec
+    (λ c. search needs) (λ c. search needs) (λ c κs. search needs) returns (λ c. search needs) (λ c. search needs)
+    returns-2 returns-3 returns-4)

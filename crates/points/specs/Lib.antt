@@ -1,3 +1,0 @@
--- What the contracts of the crate cite beside the layers' definitions.
-pub mod InSpan
-pub mod Told

@@ -1,0 +1,19 @@
+-- `replay_calls::print_calls` is safe: it reads below index 26. Assumes nothing.
+use Prim.Native.Nat.{_≤_, _-_}
+use native.Mathlib.Omega.{arith}
+use borrow.Author.Needs.{needs}
+use Rattle.replay_calls.proofs.print_calls.Statement.{statement}
+use Rattle.replay_calls.proofs.print_calls.Tie as tie
+
+abbrev Inv-loop : tie.InvT-loop
+Inv-loop asked differ call₀ call = call ≤ 26
+
+abbrev μ-loop : tie.MeasureT-loop
+μ-loop asked differ call₀ call = 26 - call
+
+pub print-calls-spec : {M : Type 1} → statement M
+print-calls-spec =
+    tie.close
+    (tie.spec
+    Inv-loop μ-loop (λ c. omega arith) (λ c. omega arith) (λ c. omega arith) (λ c. omega arith) (λ c. omega arith)
+    (λ c κs. search needs) (λ c. omega arith) (λ c. omega arith) (λ c. omega arith) (λ c. omega arith))
