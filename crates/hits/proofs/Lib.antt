@@ -1,2 +1,3 @@
--- Laws of the room.
+-- Laws of the room and of its need.
 pub mod Rooms
+pub mod Needs

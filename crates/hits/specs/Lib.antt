@@ -1,4 +1,5 @@
 -- What the contracts of the crate cite.
 pub mod Hit
+pub mod Need
 pub mod Listed
 pub mod Outcome

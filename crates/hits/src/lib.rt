@@ -3,11 +3,17 @@ ghost use mathlib.Core.Path.{_≡_};
 ghost use Prim.Native.Nat.{_<_, _≤_, _/_};
 ghost use lib.ListN.{length};
 ghost use Rattle.hits.specs.Hit.{hitSize, put, written, hitPart};
+ghost use Rattle.hits.specs.Need.{short};
 ghost use Rattle.hits.specs.Listed.{listed, one, both, turned, exchanged};
 use curves::Point;
 
 // How many numbers a hit takes.
 pub const HIT: usize = 4;
+
+// How long the rooms are that a caller lends.
+pub struct Lengths {
+    pub room: usize,
+}
 
 // One crossing: the parameter on each curve, and the position.
 pub struct CurveHit {
@@ -37,6 +43,13 @@ pub enum Crossings {
     None,
     One(CurveHit),
     Two(CurveHit, CurveHit),
+}
+
+// Whether what is lent is too short for so many hits.
+pub fn short(hits: usize, lent: Lengths) -> bool
+    ensures { λ r. ⌜ r ≡ short hits lent ⌝ }
+{
+    lent.room / HIT < hits
 }
 
 pub fn one(a: Crossing) -> Crossings
