@@ -11,6 +11,7 @@ use lib.IntN.{pos}
 use lib.Ieee.{Float, binary64, ofInt}
 use lib.Pow.{pow-pos}
 use Rattle.curves.specs.declared.Arc.{Arc}
+use Rattle.rooms.specs.Laid.{over}
 use Rattle.hits.specs.Hit.{hitSize, hitPart}
 use Rattle.checks.specs.declared.Faults.{Faults}
 use Rattle.checks.specs.Answer.{Answer, answered, refused}
@@ -20,7 +21,6 @@ use Rattle.curves.specs.declared.Curve.{Curve}
 use Rattle.curves.specs.declared.Curve.the-variants as curve
 use Rattle.calls_crossings.specs.Need.{pairNeed}
 use Rattle.calls_curves.specs.Curves.{curvesNeed}
-use Rattle.export_numbers.specs.Lent.{placed}
 use Rattle.export_numbers.specs.Exported.{short, withRoom, NumbersWritten, NumbersOut, floats, HitsOut, HitOut}
 
 -- ---- numbers
@@ -40,7 +40,7 @@ module _ {need number : ℕ} {told : Answer} {lent lent' : List Float} where
 
 -- a refusal gives no number and no other value
 pub refused-out : (need : ℕ) (lent : List Float) {number n : ℕ} {told : Answer} → told ≡ refused n → number ≡ withRoom n (short need (length lent)) → NumbersOut need told lent number lent
-unfolding NumbersOut floats placed
+unfolding NumbersOut floats
 refused-out need lent {number} e g = rw e (record { refusal = g; values = go (eqb number 0) })
   where
     go : (b : Bool) → lent ≡ cond b lent lent
@@ -49,8 +49,8 @@ refused-out need lent {number} e g = rw e (record { refusal = g; values = go (eq
 
 -- ---- hits, where the counts fit
 module _ (q : HitsAnswer) {room after : List Float} {told : Answer} {lent lent' : List ℕ} where
-  pub hits-out : Crosses q room told after → length (q .counts) ≤ length lent → lent' ≡ placed (told .counts) 0 lent → HitsOut q room lent (told .refusal) after lent'
-  unfolding answered placed
+  pub hits-out : Crosses q room told after → length (q .counts) ≤ length lent → lent' ≡ over (told .counts) lent → HitsOut q room lent (told .refusal) after lent'
+  unfolding answered
   hits-out c fit e = go (eqb (q .refusal (length room)) 0) refl
     where
       go : (b : Bool) → eqb (q .refusal (length room)) 0 ≡ b → HitsOut q room lent (told .refusal) after lent'

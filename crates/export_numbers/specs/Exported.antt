@@ -9,11 +9,11 @@ use lib.Dec.{eqb, ltb}
 use lib.ListN.{length}
 use lib.IntN.{pos}
 use lib.Ieee.{Float, binary64, ofInt}
+use Rattle.rooms.specs.Laid.{over}
 use Rattle.hits.specs.Hit.{hitSize, written}
 use Rattle.checks.specs.Refusal.{orLater}
 use Rattle.checks.specs.Answer.{Answer}
 use Rattle.calls_crossings.specs.Crossed.{HitsAnswer}
-use Rattle.export_numbers.specs.Lent.{placed}
 
 -- the refusal where a room for so many numbers has the length given
 abbrev pub short : ℕ → ℕ → ℕ
@@ -28,7 +28,7 @@ withRoom n room = cond (ltb 0 n && ltb n 4) n (orLater room n)
 -- a call that gives numbers: how many it needs room for; the library's refusal n and the numbers; the slice before; the number given back and the slice after
 pub record NumbersWritten (need n : ℕ) (numbers : List Float) (lent : List Float) (number : ℕ) (lent' : List Float) : Type 0 where
   pub refusal : number ≡ withRoom n (short need (length lent))
-  pub values : lent' ≡ cond (eqb number 0) (placed numbers 0 lent) lent
+  pub values : lent' ≡ cond (eqb number 0) (over numbers lent) lent
 
 -- a count as the float that it is: a mark is 1.0 or 0.0
 unfoldable pub floats : List ℕ → List Float
@@ -45,12 +45,12 @@ NumbersOut need told lent number lent' = NumbersWritten need (told .refusal) (to
 pub record HitsOut (q : HitsAnswer) (room : List Float) (lent : List ℕ) (number : ℕ) (room' : List Float) (lent' : List ℕ) : Type 0 where
   pub refusal : number ≡ orLater (q .refusal (length room)) (short (length (q .counts)) (length lent))
   pub hits : room' ≡ cond (eqb number 0) (written (q .hits) room) room
-  pub told : lent' ≡ cond (eqb number 0) (placed (q .counts) 0 lent) lent
+  pub told : lent' ≡ cond (eqb number 0) (over (q .counts) lent) lent
 
 -- ---- one hit
 
 -- "its four numbers come back as that part of the caller's own room": the part goes to one lent slice, how many numbers it has to another. 4 where a hit or the count would not fit.
 pub record HitOut (part : List Float) (out : List Float) (lent : List ℕ) (number : ℕ) (out' : List Float) (lent' : List ℕ) : Type 0 where
   pub refusal : number ≡ orLater (short hitSize (length out)) (short 1 (length lent))
-  pub values : out' ≡ cond (eqb number 0) (placed part 0 out) out
-  pub told : lent' ≡ cond (eqb number 0) (placed (length part ∷ []) 0 lent) lent
+  pub values : out' ≡ cond (eqb number 0) (over part out) out
+  pub told : lent' ≡ cond (eqb number 0) (over (length part ∷ []) lent) lent

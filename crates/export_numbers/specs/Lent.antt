@@ -1,11 +1,11 @@
 -- How C's numbers stand for the library's: an arc is seven numbers (center x and y, radius, radius_b, rotation, start, end) and a whole number of marks, 1 for ccw, 2 for closed
 -- and 4 for an ellipse. A curve is an arc, or with the mark 8 a segment of four numbers, its ends. A number that the caller has not lent is the NaN, so the call is refused with 1.
 -- Definitions only. Assumes nothing.
-use Prim.Native.Nat.{ℕ, _+_, _/_, _%_}
+use Prim.Native.Nat.{ℕ, _/_, _%_}
 use mathlib.Core.Bool.{cond}
-use mathlib.Core.List.{List, [], _∷_}
+use mathlib.Core.List.{List}
 use lib.Dec.{eqb}
-use lib.ListN.{getD, set}
+use lib.ListN.{getD}
 use lib.Ieee.{Float, nan}
 use Rattle.curves.specs.declared.Arc.{Arc}
 use Rattle.curves.specs.declared.Curve.{Curve}
@@ -32,8 +32,3 @@ lentCurve numbers marks =
     cond (eqb (marks / 8 % 2) 1)
     (curve.Segment (lentNumber numbers 0) (lentNumber numbers 1) (lentNumber numbers 2) (lentNumber numbers 3))
     (curve.Arc (lentArc numbers marks))
-
--- the room with the numbers xs from place i on
-unfoldable pub placed : {A : Type 0} → List A → ℕ → List A → List A
-placed [] i room = room
-placed (x ∷ xs) i room = placed xs (i + 1) (set room i x)

@@ -2,8 +2,8 @@
 ghost use mathlib.Core.Path.{_≡_};
 ghost use Prim.Native.Nat.{_≤_};
 ghost use lib.ListN.{length};
+ghost use Rattle.rooms.specs.Laid.{over};
 ghost use Rattle.checks.specs.Answer.{foundTold, huntedTold};
-ghost use Rattle.export_numbers.specs.Lent.{placed};
 use checks::Found;
 use checks::Hunted;
 
@@ -19,7 +19,7 @@ pub fn found_refusal(f: Found) -> u32
 // How many hits, to the first place of `counts`.
 pub fn count_found(f: Found, counts: &mut [u64])
     requires { ⌜ 1 ≤ length (now counts) ⌝ }
-    ensures { λ _. ⌜ now (counts .exit) ≡ placed (foundTold f .counts) 0 (now (counts .entry)) ⌝ }
+    ensures { λ _. ⌜ now (counts .exit) ≡ over (foundTold f .counts) (now (counts .entry)) ⌝ }
 {
     match f {
         Found::Hits(n) => {
@@ -41,7 +41,7 @@ pub fn hunted_refusal(h: Hunted) -> u32
 // The six counts of a hunt to the head of `counts`.
 pub fn count_hunted(h: Hunted, counts: &mut [u64])
     requires { ⌜ 6 ≤ length (now counts) ⌝ }
-    ensures { λ _. ⌜ now (counts .exit) ≡ placed (huntedTold h .counts) 0 (now (counts .entry)) ⌝ }
+    ensures { λ _. ⌜ now (counts .exit) ≡ over (huntedTold h .counts) (now (counts .entry)) ⌝ }
 {
     match h {
         Hunted::Counts(t) => {

@@ -2,9 +2,9 @@
 ghost use mathlib.Core.Path.{_≡_};
 ghost use Prim.Native.Nat.{_≤_};
 ghost use lib.ListN.{length};
+ghost use Rattle.rooms.specs.Laid.{over};
 ghost use Rattle.checks.specs.Answer.{numberTold, pairTold};
 ghost use Rattle.calls_shapes.specs.Shape.{mark, distanceTold, centerTold, throughTold, tangentTold, fittedTold};
-ghost use Rattle.export_numbers.specs.Lent.{placed};
 ghost use Rattle.export_numbers.specs.Exported.{short, withRoom, NumbersOut, NumbersWritten};
 use calls_shapes::Center;
 use calls_shapes::Distance;
@@ -16,7 +16,7 @@ use checks::Pair;
 
 pub fn place(numbers: &[f64], out: &mut [f64])
     requires { ⌜ length (now numbers) ≤ length (now out) ⌝ }
-    ensures { λ _. ⌜ now (out .exit) ≡ placed (now (numbers .entry)) 0 (now (out .entry)) ⌝ }
+    ensures { λ _. ⌜ now (out .exit) ≡ over (now (numbers .entry)) (now (out .entry)) ⌝ }
 {
     for i in 0..numbers.len() {
         out[i] = numbers[i];

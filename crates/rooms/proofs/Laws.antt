@@ -5,7 +5,7 @@ use Prim.Native.Nat.{ℕ, zero, suc, _+_, _*_, _-_, _≤_, _<_}
 use native.Mathlib.Nat.{not-suc-le-zero, zero-add, add-zero, mul-suc, suc-mul, zero-mul, le-refl}
 use native.Mathlib.Numerals.{add-one}
 use native.Mathlib.Omega.{arith}
-use lib.ListN.{length, getD, take, drop, set, length-append, length-drop, length-set, take-append-drop, List·getD-append}
+use lib.ListN.{length, getD, take, drop, set, length-append, length-drop, length-set, take-append-drop, drop-of-length-le, List·getD-append}
 use lib.Seq.{drop-drop, drop-cons, take-append-seam, drop-append-seam, drop-append-add, getD-append-add, append-snoc, lt-length-set, take-suc, take-set-le, getD-set-same, drop-set-lt}
 use Rattle.rooms.specs.Laid.{over, placed, stored, flat, laid}
 
@@ -36,6 +36,13 @@ module _ {B : Type 0} where
 
   pub stored-over : (values lent : List B) → length values ≤ length lent → stored values 0 lent ≡ over values lent
   stored-over values lent fit = stored-placed values 0 lent (rw (zero-add (length values)) fit) ∙ rw (zero-add (length values)) refl
+
+  -- what is left to store from i on, after one more
+  pub stored-next : (values : List B) (i : ℕ) (x : B) (lent : List B) → i < length values → stored (drop i values) i lent ≡ stored (drop (i + 1) values) (i + 1) (set lent i (getD values i x))
+  stored-next values i x lent h = rw (drop-cons values i x h, ← add-one i) refl
+
+  pub stored-done : (values : List B) (i : ℕ) (lent : List B) → length values ≤ i → stored (drop i values) i lent ≡ lent
+  stored-done values i lent h = rw (drop-of-length-le values h) refl
 
 -- ---- records, each as its values
 

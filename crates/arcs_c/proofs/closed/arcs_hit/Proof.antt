@@ -1,8 +1,9 @@
 -- `arcs_c::closed::arcs_hit` meets its contract. Assumes nothing.
 use mathlib.Core.Path.{refl}
+use mathlib.Core.List.{[], _∷_}
 use borrow.Author.Tests.{lt-ltb, le-ltb}
 use native.Mathlib.Nat.{le-trans}
-use Rattle.export_numbers.specs.Lent.{placed}
+use Rattle.rooms.proofs.Laws.{stored-over}
 use Rattle.export_numbers.proofs.Rooms.{part-short}
 use borrow.Author.Needs.{needs}
 use Rattle.arcs_c.proofs.closed.arcs_hit.Statement.{statement}
@@ -23,7 +24,6 @@ place-requires c κs =
     rw (c .before .hit .ensures) (le-trans (part-short (z .room .now) (z .count) (z .i)) (test .if1 .left))
 
 returns-3 : tie.Need-returns-3
-unfolding placed
 returns-3 c =
     let place = c .before .before in
     let hit = place .before .before in
@@ -33,7 +33,7 @@ returns-3 c =
     record {
       refusal = rw (le-ltb _ _ (test .if1 .left), le-ltb _ _ (test2 .if2 .left)) refl;
       values = rw (← part) (place .place .ensures);
-      told = rw (← part) refl;
+      told = rw (← part) (stored-over (_ ∷ []) _ (test2 .if2 .left));
     }
 
 pub arcs-hit-spec : {M : Type 1} → statement M

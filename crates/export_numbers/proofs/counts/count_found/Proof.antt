@@ -1,16 +1,15 @@
 -- `export_numbers::counts::count_found` meets its contract. Assumes nothing.
+use mathlib.Core.List.{[], _∷_}
 use mathlib.Core.Path.{refl}
-use Rattle.export_numbers.specs.Lent.{placed}
+use Rattle.rooms.proofs.Laws.{stored-over}
 use borrow.Author.Needs.{needs}
 use Rattle.export_numbers.proofs.counts.count_found.Statement.{statement}
 use Rattle.export_numbers.proofs.counts.count_found.Tie as tie
 
 returns : tie.Need-returns
-unfolding placed
-returns c = rw (c .before .f .given .1) refl
+returns c = rw (c .before .f .given .1) (stored-over (_ ∷ []) (c .before .before .before .args .counts .now) (c .before .before .before .pre))
 
 returns-2 : tie.Need-returns-2
-unfolding placed
 returns-2 c = rw (c .enum-told .given .1) refl
 
 pub count-found-spec : {M : Type 1} → statement M

@@ -1,16 +1,16 @@
--- `given::place` places one number after the other. The invariant: what is left to place from i on. Assumes nothing.
+-- `export_numbers::out::place` places one number after the other. The invariant: what is left to place from i on. Assumes nothing.
 use mathlib.Core.Path.{_≡_, refl, sym, _∙_}
 use Prim.Native.Nat.{_≤_, _-_}
 use native.Mathlib.Omega.{arith}
 use lib.ListN.{length, drop, length-set}
-use Rattle.export_numbers.specs.Lent.{placed}
-use Rattle.export_numbers.proofs.Places.{placed-next, placed-done}
+use Rattle.rooms.specs.Laid.{stored}
+use Rattle.rooms.proofs.Laws.{stored-next, stored-done, stored-over}
 use borrow.Author.Needs.{needs}
 use Rattle.export_numbers.proofs.out.place.Statement.{statement}
 use Rattle.export_numbers.proofs.out.place.Tie as tie
 
 abbrev Inv-loop : tie.InvT-loop
-Inv-loop numbers out₀ i₀ i-end out i = (i ≤ length numbers) × (length out ≡ length out₀) × (placed numbers 0 out₀ ≡ placed (drop i numbers) i out)
+Inv-loop numbers out₀ i₀ i-end out i = (i ≤ length numbers) × (length out ≡ length out₀) × (stored numbers 0 out₀ ≡ stored (drop i numbers) i out)
 
 abbrev μ-loop : tie.MeasureT-loop
 μ-loop numbers out₀ i₀ i-end out i = length numbers - i
@@ -21,12 +21,13 @@ loop-holds c = (omega arith, refl, refl)
 loop-again : tie.Need-loop-again Inv-loop μ-loop
 loop-again c =
     let l = c .before .before .loop in
-    (omega arith, length-set (l .out) (l .i) _ ∙ l .inv .1, l .inv .2 ∙ placed-next (c .before .before .before .args .numbers .now) (l .i) _ (l .out) (omega arith))
+    (omega arith, length-set (l .out) (l .i) _ ∙ l .inv .1, l .inv .2 ∙ stored-next (c .before .before .before .args .numbers .now) (l .i) _ (l .out) (omega arith))
 
 returns : tie.Need-returns Inv-loop μ-loop
 returns c =
     let l = c .before .loop in
-    sym (l .inv .2 ∙ placed-done (c .before .before .args .numbers .now) (l .i) (l .out) (omega arith))
+    let z = c .before .before .args in
+    sym (l .inv .2 ∙ stored-done (z .numbers .now) (l .i) (l .out) (omega arith)) ∙ stored-over (z .numbers .now) (z .out .now) (c .before .before .pre)
 
 pub place-spec : {M : Type 1} → statement M
 place-spec =
