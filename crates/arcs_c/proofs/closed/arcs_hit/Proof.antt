@@ -29,11 +29,13 @@ returns-3 c =
     let hit = place .before .before in
     let test2 = hit .before in
     let test = test2 .before in
+    let slice-known = test .before .before in
+    let start = slice-known .before .before in
     let part = hit .hit .ensures in
     record {
       refusal = rw (le-ltb _ _ (test .if1 .left), le-ltb _ _ (test2 .if2 .left)) refl;
       values = rw (← part) (place .place .ensures);
-      told = rw (← part) (stored-over (_ ∷ []) _ (test2 .if2 .left));
+      told = rw (← part) (stored-over (_ ∷ []) (start .args .counts .now) (test2 .if2 .left));
     }
 
 pub arcs-hit-spec : {M : Type 1} → statement M
