@@ -3,31 +3,40 @@
 -- the empty part." Definitions only. Assumes nothing.
 use Prim.Native.Nat.{ℕ, _+_, _*_}
 use mathlib.Core.Bool.{cond, _&&_}
-use mathlib.Core.List.{List, [], _∷_, _++_}
+use mathlib.Core.List.{List, [], _∷_}
 use lib.Dec.{leb, ltb}
-use lib.ListN.{length, take, drop, set}
-use lib.Ieee.{Float}
+use lib.ListN.{length, getD, take, drop}
+use lib.Ieee.{Float, nan}
+use Rattle.rooms.specs.Laid.{placed, laid}
+use Rattle.curves.specs.declared.Point.{Point}
 use Rattle.hits.specs.declared.CurveHit.{CurveHit}
 
+-- THE SIZE of a hit. It is said here and, for the code, by `HIT`; that `numbers` has so many is `numbers-size` in proofs/Rooms.antt.
 abbrev pub hitSize : ℕ
 hitSize = 4
 
 abbrev pub numbers : CurveHit → List Float
 numbers h = h .«t_a» ∷ h .«t_b» ∷ h .pos .x ∷ h .pos .y ∷ []
 
--- the numbers of the hits, one hit after the other
-unfoldable pub flat : List CurveHit → List Float
-flat [] = []
-flat (h ∷ hs) = numbers h ++ flat hs
+-- the hit of two curves at these parameters and this position
+abbrev pub hitOf : Float → Float → Point → CurveHit
+hitOf ta tb pos = record { «t_a» = ta; «t_b» = tb; pos = pos }
 
--- the room with the hits at its start
+-- ---- in a room
+
+-- the hits at the room's start
 unfoldable pub written : List CurveHit → List Float → List Float
-unfolding flat
-written hs room = flat hs ++ drop (hitSize * length hs) room
+written hs room = laid numbers hs room
 
 -- one hit written after the first n
 unfoldable pub put : List Float → ℕ → CurveHit → List Float
-put room n h = set (set (set (set room (n * hitSize) (h .«t_a»)) (n * hitSize + 1) (h .«t_b»)) (n * hitSize + 2) (h .pos .x)) (n * hitSize + 3) (h .pos .y)
+put room n h = placed (numbers h) (n * hitSize) room
+
+-- the hit i as it stands there
+abbrev pub hitAt : List Float → ℕ → CurveHit
+hitAt room i =
+    let from = i * hitSize in
+    record { «t_a» = getD room from nan; «t_b» = getD room (from + 1) nan; pos = record { x = getD room (from + 2) nan; y = getD room (from + 3) nan } }
 
 unfoldable pub hitPart : List Float → ℕ → ℕ → List Float
 hitPart room hits i = cond (ltb i hits && leb (i * hitSize + hitSize) (length room)) (take hitSize (drop (i * hitSize) room)) []

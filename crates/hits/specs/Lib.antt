@@ -3,3 +3,5 @@ pub mod Hit
 pub mod Need
 pub mod Listed
 pub mod Outcome
+pub mod Stands
+pub mod Holds

@@ -2,12 +2,12 @@
 ghost use mathlib.Core.Path.{_≡_};
 ghost use Prim.Native.Nat.{_<_, _≤_, _/_};
 ghost use lib.ListN.{length};
-ghost use Rattle.hits.specs.Hit.{hitSize, put, written, hitPart};
+ghost use Rattle.hits.specs.Hit.{hitSize, hitOf, put, hitAt, written, hitPart};
 ghost use Rattle.hits.specs.Need.{short};
 ghost use Rattle.hits.specs.Listed.{listed, one, both, turned, exchanged};
 use curves::Point;
 
-// How many numbers a hit takes.
+// How many numbers a hit takes: `hitSize` of specs/Hit.antt.
 pub const HIT: usize = 4;
 
 // How long the rooms are that a caller lends.
@@ -96,6 +96,32 @@ pub fn exchanged(c: Crossings) -> Crossings
         Crossings::None => Crossings::None,
         Crossings::One(h) => Crossings::One(turned(h)),
         Crossings::Two(h, g) => Crossings::Two(turned(h), turned(g)),
+    }
+}
+
+pub fn hit_of(t_a: f64, t_b: f64, pos: Point) -> CurveHit
+    ensures { λ r. ⌜ r ≡ hitOf «t_a» «t_b» pos ⌝ }
+{
+    CurveHit {
+        t_a: t_a,
+        t_b: t_b,
+        pos: pos,
+    }
+}
+
+// The hit i of those in the room.
+pub fn hit_at(room: &[f64], i: usize) -> CurveHit
+    requires { ⌜ i < length (now room) / hitSize ⌝ }
+    ensures { λ r. ⌜ r ≡ hitAt (now (room .entry)) i ⌝ }
+{
+    let from = i * HIT;
+    CurveHit {
+        t_a: room[from],
+        t_b: room[from + 1],
+        pos: Point {
+            x: room[from + 2],
+            y: room[from + 3],
+        },
     }
 }
 

@@ -9,12 +9,11 @@ use Rattle.laws.specs.Part.{part}
 use Rattle.curves.specs.declared.Arc.{Arc}
 use Rattle.arc.specs.Frame.{arcRadii}
 use Rattle.hunt_bracket.specs.declared.Frame.{Frame}
-use Rattle.hits.specs.declared.Tally.{Tally}
 use Rattle.hunt_bracket.specs.Frame.{frame}
 use Rattle.hunt.specs.Cells.{cells, span, firstCells, bracketed}
 use Rattle.hits.specs.Outcome.{none}
 use Rattle.hunt.specs.Visits.{scanned, fates}
-use Rattle.hunt.specs.Hunt.{early, hunted, Hunted}
+use Rattle.hunt.specs.Hunt.{early, hunted}
 use Rattle.hunt.proofs.Outcomes.{scanned-brackets, scanned-fates, scanned-angles}
 
 -- the tests before the first sample, as the code makes them
@@ -51,7 +50,3 @@ module _ (a b : Arc) (k : ℕ) where
   -- the brackets are those of the list of cells
   pub hunted-brackets : early (arcRadii b) (span a) ≡ false → hunted a b k .brackets ≡ bracketed (firstCells (frame a b) (a .start) (part (span a) (cells k)) (cells k))
   hunted-brackets e = rw (hunted-on e) (scanned-brackets (frame a b) (a .start) (part (span a) (cells k)) (cells k))
-
--- "that no second outcome satisfies it is itself proved"
-pub hunted-unique : (a b : Arc) (k : ℕ) (lent : List Float) (r s : Tally) (x y : List Float) → Hunted a b k lent r x → Hunted a b k lent s y → (r ≡ s) × (x ≡ y)
-hunted-unique a b k lent r s x y p q = (p .counts ∙ sym (q .counts), p .hits ∙ sym (q .hits))

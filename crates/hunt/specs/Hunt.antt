@@ -1,9 +1,7 @@
 -- 01, 'Span and crossings': "Depth 0 is the Rust's; depths 1 to 3 are added. The test `step.abs() < 1e-15` uses the step of depth 0 at every depth." "N + 1 + 61 for each bracket,
 -- and 0 when an early test ends the call." 000, `intersect_arcs`, from its first ellipse test on. Definitions only. Assumes nothing.
 use Prim.Native.Nat.{ℕ}
-use mathlib.Core.Path.{_≡_}
 use mathlib.Core.Bool.{Bool, cond, _||_}
-use mathlib.Core.List.{List}
 use lib.Ieee.{Float, lt}
 use Rattle.laws.specs.Literal.{ten⁻¹², ten⁻¹⁵}
 use Rattle.laws.specs.Size.{abs}
@@ -11,11 +9,9 @@ use Rattle.laws.specs.Part.{part}
 use Rattle.curves.specs.declared.Arc.{Arc}
 use Rattle.curves.specs.declared.Radii.{Radii}
 use Rattle.arc.specs.Frame.{arcRadii}
-use Rattle.hits.specs.Hit.{written}
-use Rattle.hits.specs.declared.Tally.{Tally}
 use Rattle.hunt_bracket.specs.Frame.{frame}
 use Rattle.hunt.specs.Cells.{cells, span}
-use Rattle.hits.specs.Outcome.{Outcome, tally, none}
+use Rattle.hits.specs.Outcome.{Outcome, none}
 use Rattle.hunt.specs.Visits.{scanned}
 
 -- `rb_a < 1e-12 || rb_b < 1e-12`, `step.abs() < 1e-15`
@@ -25,8 +21,3 @@ early r span = lt (r .a) ten⁻¹² || (lt (r .b) ten⁻¹² || lt (abs (part sp
 -- THE HUNT of depth k
 unfoldable pub hunted : Arc → Arc → ℕ → Outcome
 hunted a b k = cond (early (arcRadii b) (span a)) none (scanned (frame a b) (a .start) (part (span a) (cells k)) (cells k))
-
--- the answer, and the room with the hits at its start
-pub record Hunted (a b : Arc) (k : ℕ) (lent : List Float) (answer : Tally) (room : List Float) : Type 0 where
-  pub counts : answer ≡ tally (hunted a b k)
-  pub hits : room ≡ written (hunted a b k .hits) lent

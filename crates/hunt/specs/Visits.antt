@@ -31,9 +31,13 @@ settle (Hit h) o = record { hits = o .hits ++ h ∷ []; brackets = o .brackets +
 unfoldable pub angles : Frame → Cell → List Float
 angles f c = middles (value f) 60 (opened c) ++ last (value f) (opened c) ∷ []
 
+-- a bracket that was narrowed to the angle t meets its fate
+abbrev pub fated : Frame → Float → Outcome → Outcome
+fated f t o = settle (fate f (o .hits) t) o
+
 -- a cell that brackets is narrowed and meets its fate
 unfoldable pub resolve : Frame → Cell → Outcome → Outcome
-resolve f c o = settle (fate f (o .hits) (last (value f) (opened c))) (look (angles f c) o)
+resolve f c o = fated f (last (value f) (opened c)) (look (angles f c) o)
 
 -- one cell: its end is looked at
 unfoldable pub visit : Frame → Cell → Outcome → Outcome

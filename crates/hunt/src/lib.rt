@@ -4,15 +4,13 @@ mod counts;
 mod settling;
 
 ghost use mathlib.Core.Path.{_≡_};
-ghost use mathlib.Core.List.{List};
 ghost use Prim.Native.Nat.{_≤_, _<_, _/_, _+_, _^_};
 ghost use lib.ListN.{length};
-ghost use lib.Ieee.{Float};
-ghost use Rattle.hits.specs.Hit.{hitSize, written};
+ghost use Rattle.hits.specs.Hit.{hitSize};
 ghost use Rattle.hunt.specs.Cells.{cells};
-ghost use Rattle.hits.specs.Outcome.{Outcome, tally};
+ghost use Rattle.hits.specs.Holds.{Holds, Steps};
 ghost use Rattle.hunt.specs.Visits.{Small, visit, scanned};
-ghost use Rattle.hunt.specs.Hunt.{early, Hunted};
+ghost use Rattle.hunt.specs.Hunt.{early, hunted};
 pub use cells::bracket;
 pub use cells::sample;
 use curves::Arc;
@@ -26,8 +24,7 @@ use hunt_bracket::value;
 // One cell: the tally goes in and comes back, a hit goes to the room.
 pub fn visit(f: Frame, c: Cell, t: Tally, room: &mut [f64]) -> Tally
     requires { ⌜ Small t × (t .evaluations + 62 < 2 ^ 32) × (t .hits < length (now room) / hitSize) ⌝ }
-    ensures { λ r. ⌜ ((o : Outcome) (lent : List Float) → t ≡ tally o → now (room .entry) ≡ written (o .hits) lent →
-        (r ≡ tally (visit f c o)) × (now (room .exit) ≡ written (visit f c o .hits) lent)) ⌝ }
+    ensures { λ r. ⌜ Steps (visit f c) t (now (room .entry)) r (now (room .exit)) ⌝ }
 {
     let seen = counts::looked(t, 1);
     if bracket(c.g_lo, c.g_hi) {
@@ -40,7 +37,7 @@ pub fn visit(f: Frame, c: Cell, t: Tally, room: &mut [f64]) -> Tally
 // The first n cells of the samples start + step * i.
 fn scan(f: Frame, start: f64, step: f64, n: u32, room: &mut [f64]) -> Tally
     requires { ⌜ (n ≤ 32768) × (n ≤ length (now room) / hitSize) ⌝ }
-    ensures { λ r. ⌜ (r ≡ tally (scanned f start step n)) × (now (room .exit) ≡ written (scanned f start step n .hits) (now (room .entry))) ⌝ }
+    ensures { λ r. ⌜ Holds (scanned f start step n) (now (room .entry)) r (now (room .exit)) ⌝ }
 {
     let mut lo = start;
     let mut g_lo = value(f, start);
@@ -86,7 +83,7 @@ pub fn cell_count(depth: u32) -> u32
 // The hunt at a depth, with room for a hit in each cell.
 pub fn hunt(a: Arc, b: Arc, depth: u32, room: &mut [f64]) -> Tally
     requires { ⌜ (depth ≤ 7) × (cells depth ≤ length (now room) / hitSize) ⌝ }
-    ensures { λ r. ⌜ Hunted a b depth (now (room .entry)) r (now (room .exit)) ⌝ }
+    ensures { λ r. ⌜ Holds (hunted a b depth) (now (room .entry)) r (now (room .exit)) ⌝ }
 {
     let f = framed(a, b);
     let span = cells::span(a);

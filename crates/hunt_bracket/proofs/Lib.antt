@@ -1,4 +1,4 @@
 -- The laws that the proofs of the functions share.
 pub mod Frames
 pub mod Halvings
-pub mod Rooms
+pub mod Doubles

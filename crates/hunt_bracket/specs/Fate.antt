@@ -11,6 +11,7 @@ use Rattle.arc.specs.declared.InSpan.{InSpan}
 use Rattle.arc.specs.declared.InSpan.the-variants.{At, Outside}
 use Rattle.arc.specs.Span.{arcParamInSpan}
 use Rattle.hits.specs.declared.CurveHit.{CurveHit}
+use Rattle.hits.specs.Hit.{hitOf}
 use Rattle.hunt_bracket.specs.declared.Frame.{Frame}
 use Rattle.hunt_bracket.specs.declared.Fate.{Fate}
 use Rattle.hunt_bracket.specs.declared.Fate.the-variants.{OutsideA, OutsideB, Double, Hit}
@@ -27,7 +28,7 @@ double t (h ∷ hs) = near (h .«t_a») t || double t hs
 abbrev pub judged : List CurveHit → Point → InSpan → InSpan → Fate
 judged hs pos Outside b = OutsideA
 judged hs pos (At ta) Outside = OutsideB
-judged hs pos (At ta) (At tb) = cond (double ta hs) Double (Hit (record { «t_a» = ta; «t_b» = tb; pos = pos }))
+judged hs pos (At ta) (At tb) = cond (double ta hs) Double (Hit (hitOf ta tb pos))
 
 -- of a bracket that was narrowed to the angle t, after the hits hs
 unfoldable pub fate : Frame → List CurveHit → Float → Fate

@@ -1,17 +1,14 @@
 // The fate of a narrowed bracket.
 ghost use mathlib.Core.Path.{_≡_};
-ghost use mathlib.Core.List.{List};
 ghost use Prim.Native.Nat.{_≤_, _/_};
 ghost use lib.ListN.{length};
-ghost use lib.Ieee.{Float};
-ghost use Rattle.hits.specs.declared.CurveHit.{CurveHit};
-ghost use Rattle.hits.specs.Hit.{hitSize, written};
+ghost use Rattle.hits.specs.Hit.{hitSize};
+ghost use Rattle.hits.specs.Stands.{OfHits};
 ghost use Rattle.hunt_bracket.specs.Fate.{near, double, judged, fate};
 use crate::Fate;
 use crate::Frame;
 use arc::InSpan;
 use curves::Point;
-use hits::CurveHit;
 
 fn near(p: f64, q: f64) -> bool
     ensures { λ r. ⌜ r ≡ near p q ⌝ }
@@ -22,12 +19,13 @@ fn near(p: f64, q: f64) -> bool
 // Whether one of the hits in the room has its angle on a near t.
 fn seen(room: &[f64], hits: usize, t: f64) -> bool
     requires { ⌜ hits ≤ length (now room) / hitSize ⌝ }
-    ensures { λ r. ⌜ ((hs : List CurveHit) (lent : List Float) → hits ≡ length hs → now (room .entry) ≡ written hs lent → r ≡ double t hs) ⌝ }
+    ensures { λ r. ⌜ OfHits hits (now (room .entry)) (λ hs. r ≡ double t hs) ⌝ }
 {
     let mut found = false;
     let mut i: usize = 0;
     while i < hits {
-        if near(room[i * 4], t) {
+        let h = hits::hit_at(room, i);
+        if near(h.t_a, t) {
             found = true;
             break;
         }
@@ -39,7 +37,7 @@ fn seen(room: &[f64], hits: usize, t: f64) -> bool
 // The tests in their order: outside a, outside b, double.
 fn judge(a: InSpan, b: InSpan, pos: Point, room: &[f64], hits: usize) -> Fate
     requires { ⌜ hits ≤ length (now room) / hitSize ⌝ }
-    ensures { λ r. ⌜ ((hs : List CurveHit) (lent : List Float) → hits ≡ length hs → now (room .entry) ≡ written hs lent → r ≡ judged hs pos a b) ⌝ }
+    ensures { λ r. ⌜ OfHits hits (now (room .entry)) (λ hs. r ≡ judged hs pos a b) ⌝ }
 {
     match a {
         InSpan::At(ta) => match b {
@@ -47,11 +45,7 @@ fn judge(a: InSpan, b: InSpan, pos: Point, room: &[f64], hits: usize) -> Fate
                 if seen(room, hits, ta) {
                     return Fate::Double;
                 }
-                Fate::Hit(CurveHit {
-                    t_a: ta,
-                    t_b: tb,
-                    pos: pos,
-                })
+                Fate::Hit(hits::hit_of(ta, tb, pos))
             }
             InSpan::Outside => Fate::OutsideB,
         },
@@ -62,7 +56,7 @@ fn judge(a: InSpan, b: InSpan, pos: Point, room: &[f64], hits: usize) -> Fate
 // The fate of a bracket that was narrowed to the angle t.
 pub fn fate(f: Frame, t: f64, room: &[f64], hits: usize) -> Fate
     requires { ⌜ hits ≤ length (now room) / hitSize ⌝ }
-    ensures { λ r. ⌜ ((hs : List CurveHit) (lent : List Float) → hits ≡ length hs → now (room .entry) ≡ written hs lent → r ≡ fate f hs t) ⌝ }
+    ensures { λ r. ⌜ OfHits hits (now (room .entry)) (λ hs. r ≡ fate f hs t) ⌝ }
 {
     let a = f.a;
     let b = f.b;

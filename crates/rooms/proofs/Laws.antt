@@ -6,7 +6,7 @@ use native.Mathlib.Nat.{not-suc-le-zero, zero-add, add-zero, mul-suc, suc-mul, z
 use native.Mathlib.Numerals.{add-one}
 use native.Mathlib.Omega.{arith}
 use lib.ListN.{length, getD, take, drop, set, length-append, length-drop, length-set, take-append-drop, drop-of-length-le, List·getD-append}
-use lib.Seq.{drop-drop, drop-cons, take-append-seam, drop-append-seam, drop-append-add, getD-append-add, append-snoc, lt-length-set, take-suc, take-set-le, getD-set-same, drop-set-lt}
+use lib.Seq.{drop-drop, drop-cons, take-append-seam, drop-append-seam, drop-append-add, getD-append-add, append-snoc, length-take-le, lt-length-set, take-suc, take-set-le, getD-set-same, drop-set-lt}
 use Rattle.rooms.specs.Laid.{over, placed, stored, flat, laid}
 
 -- ---- values
@@ -14,6 +14,11 @@ use Rattle.rooms.specs.Laid.{over, placed, stored, flat, laid}
 module _ {B : Type 0} where
   pub over-length : (values lent : List B) → length values ≤ length lent → length (over values lent) ≡ length lent
   over-length values lent fit = length-append values (drop (length values) lent) ∙ rw (length-drop (length values) lent) (omega arith)
+
+  pub placed-length : (values : List B) (i : ℕ) (lent : List B) → i + length values ≤ length lent → length (placed values i lent) ≡ length lent
+  placed-length values i lent fit =
+      length-append (take i lent ++ values) (drop (i + length values) lent) ∙
+      rw (length-append (take i lent) values, length-take-le i lent (omega arith), length-drop (i + length values) lent) (omega arith)
 
   -- values behind others
   pub placed-over : (xs ys lent : List B) → placed ys (length xs) (over xs lent) ≡ over (xs ++ ys) lent

@@ -1,8 +1,7 @@
--- `hits::put` meets its contract: four stores. Assumes nothing.
-use mathlib.Core.Path.{refl}
+-- `hits::put` meets its contract: one store after the other. Assumes nothing.
 use native.Mathlib.Omega.{arith}
 use lib.ListN.{length-set}
-use Rattle.hits.specs.Hit.{put}
+use Rattle.hits.proofs.Rooms.{put-stores}
 use borrow.Author.Needs.{needs}
 use Rattle.hits.proofs.put.Statement.{statement}
 use Rattle.hits.proofs.put.Tie as tie
@@ -17,8 +16,7 @@ slice-write-room-4 : tie.Need-slice-write-room-4
 slice-write-room-4 c = simp length-set (omega arith)
 
 returns : tie.Need-returns
-unfolding put
-returns c = refl
+returns c = put-stores (c .args .room .now) (c .args .n) (c .args .h) (c .pre)
 
 pub put-spec : {M : Type 1} → statement M
 put-spec =

@@ -26,7 +26,7 @@ put-requires-3 c κs =
     let c2 = put2 .before .before .before in
     let start = c2 .before .before .before in
     let h = rw (c2 .c2 .given .1) at (start .pre) in
-    rw (put2 .put2 .ensures, put-length) (omega arith)
+    rw (put2 .put2 .ensures, put-length (start .args .room .now) 0 _ (omega arith)) (omega arith)
 
 returns : tie.Need-returns
 returns c = rw (c .enum-told .given .1) (refl, sym (written-none _))
@@ -37,8 +37,7 @@ returns-2 c =
     let after-c = put .before .before .before in
     let start = after-c .before .before .before in
     let is = after-c .c .given .1 in
-    let h = rw is at (start .pre) in
-    rw is (refl, put .put .ensures ∙ put-first _ (start .args .room .now) h)
+    rw is (refl, put .put .ensures ∙ put-first _ (start .args .room .now))
 
 returns-3 : tie.Need-returns-3
 returns-3 c =
@@ -48,8 +47,7 @@ returns-3 c =
     let c2 = put2 .before .before .before in
     let start = c2 .before .before .before in
     let is = c2 .c2 .given .1 in
-    let h = rw is at (start .pre) in
-    rw is (refl, put3 .put3 .ensures ∙ put-second _ _ (start .args .room .now) _ (put2 .put2 .ensures) h)
+    rw is (refl, put3 .put3 .ensures ∙ put-second _ _ (start .args .room .now) _ (put2 .put2 .ensures))
 
 pub write-spec : {M : Type 1} → statement M
 write-spec =

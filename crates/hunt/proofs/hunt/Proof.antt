@@ -1,10 +1,10 @@
 -- `hunt`: the tests before the first sample, then the cells of its depth. Assumes nothing.
-use mathlib.Core.Path.{_≡_, sym}
+use mathlib.Core.Path.{_≡_, refl, sym}
 use mathlib.Core.Bool.{true, false}
 use Prim.Native.Nat.{_≤_, _^_}
 use native.Mathlib.Omega.{arith}
 use lib.Pow.{pow-mono}
-use Rattle.hits.proofs.Rooms.{written-none}
+use Rattle.hits.proofs.Held.{holds-empty}
 use Rattle.hunt.specs.Cells.{span}
 use Rattle.hunt.specs.Visits.{scanned}
 use Rattle.hunt.specs.Hunt.{early, hunted}
@@ -22,7 +22,7 @@ returns c =
     let z = start .args in
     let test = hunted-test (z .a) (z .b) _ _ _ true (framed .framed .ensures) (after-span .span .ensures) (after-early .early .ensures) (c .before .if1 .taken) in
     let is = hunted-early (z .a) (z .b) (z .depth) test in
-    record { counts = rw is (c .none .ensures); hits = rw is (sym (written-none _)) }
+    rw is (holds-empty refl (c .none .ensures))
 
 scan-requires : tie.Need-scan-requires
 scan-requires c κs =
@@ -46,7 +46,7 @@ returns-2 c =
     let on = hunted-test (z .a) (z .b) _ _ _ false (framed .framed .ensures) (span .span .ensures) (early .early .ensures) (test .if1 .left) in
     let is : scanned (framed .framed .result) (z .a .start) (step .step .result) (cells .cells .result) ≡ hunted (z .a) (z .b) (z .depth) =
     rw (step .step .ensures, framed .framed .ensures, span .span .ensures, cells .cells .ensures) (sym (hunted-on (z .a) (z .b) (z .depth) on)) in
-    record { counts = rw (← is) (scan .scan .ensures .0); hits = rw (← is) (scan .scan .ensures .1) }
+    rw (← is) (scan .scan .ensures)
 
 pub hunt-spec : {M : Type 1} → statement M
 hunt-spec =

@@ -4,13 +4,12 @@ use mathlib.Core.List.{[], _∷_}
 use Prim.Native.Nat.{_≤_, _-_}
 use native.Mathlib.Omega.{arith}
 use lib.ListN.{length}
-use Rattle.hits.specs.Hit.{written}
-use Rattle.hits.proofs.Rooms.{written-none}
-use Rattle.hunt_bracket.specs.declared.Cell.{Cell}
+use Rattle.hits.specs.Holds.{Holds}
+use Rattle.hits.proofs.Held.{holds-empty}
 use Rattle.hunt_bracket.specs.Frame.{value}
 use Rattle.hunt.specs.Cells.{sample}
 use Rattle.hits.specs.Outcome.{Outcome, tally, none}
-use Rattle.hunt.specs.Visits.{further, visit, scanned}
+use Rattle.hunt.specs.Visits.{further, scanned}
 use Rattle.hunt.proofs.Outcomes.{look-counts, scanned-none, scanned-more, scanned-small, cell-is}
 use borrow.Author.Needs.{needs}
 use Rattle.hunt.proofs.scan.Statement.{statement}
@@ -22,8 +21,7 @@ Inv-loop f start step n room₀ lo₀ g-lo₀ t₀ i₀ room lo g-lo t i =
     × (length room ≡ length room₀)
     × (lo ≡ sample start step i)
     × (g-lo ≡ value f lo)
-    × (t ≡ tally (scanned f start step i))
-    × (room ≡ written (scanned f start step i .hits) room₀)
+    × Holds (scanned f start step i) room₀ t room
 
 abbrev μ-loop : tie.MeasureT-loop
 μ-loop f start step n room₀ lo₀ g-lo₀ t₀ i₀ room lo g-lo t i = n - i
@@ -42,7 +40,7 @@ loop-holds c =
     ap (further 1) (c .before .none .ensures) ∙
     look-counts none (z .start ∷ []) 1 refl ∙
     ap tally (sym (scanned-none (z .f) (z .start) (z .step))) in
-    (omega arith, refl, refl, after-value .value .ensures, first, rw (scanned-none (z .f) (z .start) (z .step)) (sym (written-none _)))
+    (omega arith, refl, refl, after-value .value .ensures, holds-empty (ap (λ (o : Outcome). o .hits) (scanned-none (z .f) (z .start) (z .step))) first)
 
 visit-requires : tie.Need-visit-requires Inv-loop μ-loop
 visit-requires c κs =
@@ -53,7 +51,7 @@ visit-requires c κs =
     let z = start .args in
     let l = loop .loop in
     let s = scanned-small (z .f) (z .start) (z .step) (l .i) (omega arith) in
-    rw (l .inv .4) (s .0, s .1, omega (arith, s .2))
+    rw (l .inv .4 .counts) (s .0, s .1, omega (arith, s .2))
 
 loop-again : tie.Need-loop-again Inv-loop μ-loop
 loop-again c =
@@ -66,7 +64,7 @@ loop-again c =
     let z = start .args in
     let l = loop .loop in
     let o = scanned (z .f) (z .start) (z .step) (l .i) in
-    let v = visited .visit .ensures o (z .room .now) (l .inv .4) (l .inv .5) in
+    let v = visited .visit .ensures o (z .room .now) (l .inv .4) in
     let same = cell-is (z .f) (z .start) (z .step) (l .i) (l .lo) (sampled .sample .result) (l .g-lo) (valued .value2 .result) (l .inv .2)
     (sampled .sample .ensures) (l .inv .3) (valued .value2 .ensures) in
     let next = sym (scanned-more (z .f) (z .start) (z .step) (l .i)) in (
@@ -74,8 +72,7 @@ loop-again c =
       visited .visit .kept .1 .1 .1 .0 ∙ l .inv .1,
       sampled .sample .ensures,
       valued .value2 .ensures,
-      v .0 ∙ ap (λ (c : Cell). tally (visit (z .f) c o)) same ∙ ap tally next,
-      v .1 ∙ ap (λ (c : Cell). written (visit (z .f) c o .hits) (z .room .now)) same ∙ ap (λ (x : Outcome). written (x .hits) (z .room .now)) next,
+      rw (← next, ← same) v,
     )
 
 returns : tie.Need-returns Inv-loop μ-loop
@@ -85,7 +82,7 @@ returns c =
     let z = start .args in
     let l = c .before .loop in
     let done : l .i ≡ z .n = omega arith in
-    rw (← done) (l .inv .4, l .inv .5)
+    rw (← done) (l .inv .4)
 
 pub scan-spec : {M : Type 1} → statement M
 scan-spec =

@@ -33,12 +33,12 @@ returns c =
     let bracket = test .before in
     let look1 = bracket .before in
     let z = look1 .before .before .args in
-    λ o lent e w.
+    λ o lent h.
     let all = angles (z .f) (z .c) in
     let ended = look (z .c .hi ∷ []) o in
-    let first : look1 .looked .result ≡ tally ended = look1 .looked .ensures ∙ ap (further 1) e ∙ look-counts o (z .c .hi ∷ []) 1 refl in
+    let first : look1 .looked .result ≡ tally ended = look1 .looked .ensures ∙ ap (further 1) (h .counts) ∙ look-counts o (z .c .hi ∷ []) 1 refl in
     let then : more .looked2 .result ≡ tally (look all ended) = more .looked2 .ensures ∙ ap (further 61) first ∙ look-counts ended all 61 (sym (angles-length (z .f) (z .c))) in
-    rw (← bracket .bracket .ensures, test .if1 .taken, ← narrow .narrow .ensures) (settle .settle .ensures (look all ended) lent then w)
+    rw (← bracket .bracket .ensures, test .if1 .taken, ← narrow .narrow .ensures) (settle .settle .ensures (look all ended) lent (record { counts = then; hits = h .hits }))
 
 returns-2 : tie.Need-returns-2
 unfolding visit
@@ -46,8 +46,9 @@ returns-2 c =
     let looked = c .before .before in
     let start = looked .before .before in
     let z = start .args in
-    λ o lent e w.
-    rw (← c .before .bracket .ensures, c .if1 .left) (looked .looked .ensures ∙ ap (further 1) e ∙ look-counts o (z .c .hi ∷ []) 1 refl, w)
+    λ o lent h.
+    rw (← c .before .bracket .ensures, c .if1 .left)
+    (record { counts = looked .looked .ensures ∙ ap (further 1) (h .counts) ∙ look-counts o (z .c .hi ∷ []) 1 refl; hits = h .hits })
 
 pub visit-spec : {M : Type 1} → statement M
 visit-spec =

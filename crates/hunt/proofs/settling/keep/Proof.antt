@@ -1,7 +1,9 @@
 -- `settling::keep` writes a hit after those in the room. Assumes nothing.
-use mathlib.Core.List.{append-nil}
+use mathlib.Core.Path.{sym}
+use mathlib.Core.List.{[], _∷_}
+use lib.ListN.{length-append}
 use Rattle.hits.proofs.Rooms.{put-written}
-use Rattle.hunt_bracket.proofs.Rooms.{lent-fits}
+use Rattle.hits.proofs.Held.{nothing-added}
 use borrow.Author.Needs.{needs}
 use Rattle.hunt.proofs.settling.keep.Statement.{statement}
 use Rattle.hunt.proofs.settling.keep.Tie as tie
@@ -10,17 +12,19 @@ returns : tie.Need-returns
 returns c =
     let put = c .before .before in
     let d = put .before .before .before in
-    let start = d .before .before .before in
-    λ hs lent e w. rw (d .d .given .1, put .put .ensures, w, e) (put-written hs _ lent (lent-fits hs lent (rw (← w, ← e) (start .pre))))
+    λ hs lent s. rw (d .d .given .1) (
+      record { count = rw (s .count) (sym (length-append hs (_ ∷ []))); numbers = rw (put .put .ensures, s .numbers, s .count) (put-written hs _ lent) }
+    )
 
+-- the other fates leave no hit
 returns-2 : tie.Need-returns-2
-returns-2 c = λ hs lent e w. rw (c .enum-told .given .1, append-nil) w
+returns-2 c = λ hs lent s. rw (c .enum-told .given .1) (nothing-added s)
 
 returns-3 : tie.Need-returns-3
-returns-3 c = λ hs lent e w. rw (c .enum-told2 .given .1, append-nil) w
+returns-3 c = λ hs lent s. rw (c .enum-told2 .given .1) (nothing-added s)
 
 returns-4 : tie.Need-returns-4
-returns-4 c = λ hs lent e w. rw (c .enum-told3 .given .1, append-nil) w
+returns-4 c = λ hs lent s. rw (c .enum-told3 .given .1) (nothing-added s)
 
 pub keep-spec : {M : Type 1} → statement M
 keep-spec =

@@ -11,7 +11,7 @@ returns c =
     let arc-param-in-span = c .before .before in
     let theta = arc-param-in-span .before in
     let point = theta .before in
-    λ hs lent e w. c .judge .ensures hs lent e w ∙ rw (arc-param-in-span .arc-param-in-span .ensures, c .before .arc-param-in-span2 .ensures, theta .theta .ensures, point .point .ensures)
+    λ hs lent s. c .judge .ensures hs lent s ∙ rw (arc-param-in-span .arc-param-in-span .ensures, c .before .arc-param-in-span2 .ensures, theta .theta .ensures, point .point .ensures)
 
 pub fate-spec : {M : Type 1} → statement M
 fate-spec =

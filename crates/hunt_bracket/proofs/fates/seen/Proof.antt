@@ -1,53 +1,53 @@
 -- `settling::seen` looks at one hit after the other. The invariant: a hit is near t where one from i on is. Assumes nothing.
 use mathlib.Core.Path.{_≡_, refl, sym, _∙_}
 use mathlib.Core.Bool.{false}
-use mathlib.Core.List.{List}
 use Prim.Native.Nat.{_≤_, _-_}
 use native.Mathlib.Omega.{arith}
 use lib.ListN.{length, drop}
-use lib.Ieee.{Float}
-use Rattle.hits.specs.declared.CurveHit.{CurveHit}
-use Rattle.hits.specs.Hit.{written}
+use Rattle.hits.specs.Stands.{OfHits}
 use Rattle.hunt_bracket.specs.Fate.{double}
-use Rattle.hunt_bracket.proofs.Rooms.{double-step, double-past}
+use Rattle.hunt_bracket.proofs.Doubles.{double-step, double-past}
 use Rattle.hunt_bracket.proofs.fates.seen.Statement.{statement}
 use Rattle.hunt_bracket.proofs.fates.seen.Tie as tie
 
 abbrev Inv-loop : tie.InvT-loop
-Inv-loop room hits t found₀ i₀ found i = (i ≤ hits) × (found ≡ false) × ((hs : List CurveHit) (lent : List Float) → hits ≡ length hs → room ≡ written hs lent → double t hs ≡ double t (drop i hs))
+Inv-loop room hits t found₀ i₀ found i = (i ≤ hits) × (found ≡ false) × OfHits hits room (λ hs. double t hs ≡ double t (drop i hs))
 
 abbrev μ-loop : tie.MeasureT-loop
 μ-loop room hits t found₀ i₀ found i = hits - i
 
 loop-holds : tie.Need-loop-holds Inv-loop μ-loop
-loop-holds c = (omega arith, refl, λ hs lent e w. refl)
+loop-holds c = (omega arith, refl, λ hs lent s. refl)
 
 loop-again : tie.Need-loop-again Inv-loop μ-loop
 loop-again c =
-    let in-loop = c .before .before .before in
-    let loop = in-loop .before in
+    let read = c .before .before in
+    let loop = read .before .before in
     let start = loop .before .before in
     let l = loop .loop in
     let z = start .args in
-    (omega arith, l .inv .1, λ hs lent e w. l .inv .2 hs lent e w ∙ rw (← w, ← c .before .near .ensures, c .if1 .left) at (double-step (z .t) hs lent (l .i) (omega arith)))
+    (omega arith, l .inv .1, 
+      λ hs lent s.
+      l .inv .2 hs lent s ∙ rw (← c .before .near .ensures, c .if1 .left) at (double-step (z .t) hs lent s (l .i) _ (read .before .loop-test .taken) (read .hit-at .ensures)))
 
 returns : tie.Need-returns Inv-loop μ-loop
 returns c =
     let l = c .before .loop in
-    λ hs lent e w. l .inv .1 ∙ sym (l .inv .2 hs lent e w ∙ double-past (c .before .before .before .args .t) hs (l .i) (omega arith))
+    λ hs lent s. l .inv .1 ∙ sym (l .inv .2 hs lent s ∙ double-past (c .before .before .before .args .t) hs (l .i) (omega (arith, s .count)))
 
 returns-2 : tie.Need-returns-2 Inv-loop μ-loop
 returns-2 c =
-    let in-loop = c .before .before .before in
-    let loop = in-loop .before in
+    let read = c .before .before in
+    let loop = read .before .before in
     let start = loop .before .before in
     let l = loop .loop in
     let z = start .args in
-    λ hs lent e w. sym (l .inv .2 hs lent e w ∙ rw (← w, ← c .before .near .ensures, c .if1 .taken) at (double-step (z .t) hs lent (l .i) (omega arith)))
+    λ hs lent s.
+    sym (l .inv .2 hs lent s ∙ rw (← c .before .near .ensures, c .if1 .taken) at (double-step (z .t) hs lent s (l .i) _ (read .before .loop-test .taken) (read .hit-at .ensures)))
 
 pub seen-spec : {M : Type 1} → statement M
 seen-spec =
     tie.close
     (tie.spec
-    Inv-loop μ-loop loop-holds (λ c. omega arith) (λ c. omega arith) (λ c. omega arith) (λ c κs. tt) (λ c. omega arith)
-    (λ c. omega arith) loop-again returns returns-2)
+    Inv-loop μ-loop loop-holds (λ c κs. omega arith) (λ c κs. tt) (λ c. omega arith) (λ c. omega arith) loop-again
+    returns returns-2)
