@@ -8,7 +8,6 @@ use arc::InSpan;
 pub use circles::intersect_circle_circle;
 use curves::Point;
 use hits::Crossing;
-use hits::CurveHit;
 pub use segment::intersect_segment_arc;
 
 // A position that lies in both curves' spans.
@@ -17,11 +16,7 @@ pub fn meet(a: InSpan, b: InSpan, pos: Point) -> Crossing
 {
     match a {
         InSpan::At(ta) => match b {
-            InSpan::At(tb) => Crossing::At(CurveHit {
-                t_a: ta,
-                t_b: tb,
-                pos: pos,
-            }),
+            InSpan::At(tb) => Crossing::At(hits::hit_of(ta, tb, pos)),
             InSpan::Outside => Crossing::Miss,
         },
         InSpan::Outside => Crossing::Miss,

@@ -1,6 +1,5 @@
 -- What the contracts of the crate cite.
 pub mod Table
 pub mod Refused
-pub mod Hits
 pub mod Reply
 pub mod Answer

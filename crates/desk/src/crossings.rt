@@ -1,52 +1,29 @@
 // The crossings of two records, and their lines.
-ghost use mathlib.Core.Path.{_≡_};
-ghost use mathlib.Core.List.{List};
-ghost use Prim.Native.Nat.{_*_, _<_, _≤_, _/_};
+ghost use Prim.Native.Nat.{_*_, _≤_, _/_};
 ghost use lib.ListN.{length};
-ghost use lib.Ieee.{Float};
-ghost use Rattle.hits.specs.declared.CurveHit.{CurveHit};
-ghost use Rattle.hits.specs.Hit.{hitSize, written};
+ghost use Rattle.hits.specs.Hit.{hitSize};
+ghost use Rattle.hits.specs.Stands.{OfHits};
 ghost use Rattle.calls_curves.specs.Curves.{curvesOutcome};
 ghost use Rattle.digits.specs.Spliced.{Put};
 ghost use Rattle.desk.specs.Table.{recordAt};
 ghost use Rattle.desk.specs.Refused.{pairRefusal, queryRefusal};
-ghost use Rattle.desk_print.specs.Printed.{hitLines};
-ghost use Rattle.desk.specs.Hits.{hitAt};
+ghost use Rattle.desk_print.specs.Printed.{longestHitLine, hitLines};
 ghost use Rattle.desk.specs.Reply.{crossed, unless};
 ghost use Rattle.desk.specs.Answer.{roomNeed, outNeed, Shows};
 use crate::Table;
 use crate::records;
 use checks::Hunted;
 use curves::Curve;
-use curves::Point;
-use hits::CurveHit;
-use hits::HIT;
-
-// The hit i of those in the room.
-fn hit_at(room: &[f64], i: usize) -> CurveHit
-    requires { ⌜ i < length (now room) / hitSize ⌝ }
-    ensures { λ r. ⌜ r ≡ hitAt (now (room .entry)) i ⌝ }
-{
-    let from = i * HIT;
-    CurveHit {
-        t_a: room[from],
-        t_b: room[from + 1],
-        pos: Point {
-            x: room[from + 2],
-            y: room[from + 3],
-        },
-    }
-}
 
 // The lines of the hits in the room, numbered from 1.
 fn put_hits(out: &mut [u8], line: u64, room: &[f64], hits: usize) -> usize
-    requires { ⌜ (hits ≤ length (now room) / hitSize) × (112 * hits ≤ length (now out)) ⌝ }
-    ensures { λ r. ⌜ ((hs : List CurveHit) (lent : List Float) → hits ≡ length hs → now (room .entry) ≡ written hs lent → Put (now (out .entry)) 0 (hitLines line 1 hs) r (now (out .exit))) ⌝ }
+    requires { ⌜ (hits ≤ length (now room) / hitSize) × (longestHitLine * hits ≤ length (now out)) ⌝ }
+    ensures { λ r. ⌜ OfHits hits (now (room .entry)) (λ hs. Put (now (out .entry)) 0 (hitLines line 1 hs) r (now (out .exit))) ⌝ }
 {
     let mut at: usize = 0;
     let mut i: usize = 0;
     while i < hits {
-        let h = hit_at(room, i);
+        let h = hits::hit_at(room, i);
         at = desk_print::hit_line(out, at, line, (i + 1) as u64, h);
         i += 1;
     }

@@ -30,6 +30,13 @@ head letter line = letter ∷ [] ++ count line
 unfoldable pub numbers : CurveHit → List ℕ
 numbers h = number (h .«t_a») ++ number (h .«t_b») ++ number (h .pos .x) ++ number (h .pos .y)
 
+-- the longest that four fields of 17 bytes are, and a hit line with them: `numbers-length` and `hit-length` in proofs/Lines.antt
+abbrev pub longestNumbers : ℕ
+longestNumbers = 68
+
+abbrev pub longestHitLine : ℕ
+longestHitLine = 44 + longestNumbers
+
 -- `R` is 82
 unfoldable pub refusedLine : ℕ → ℕ → List ℕ
 refusedLine line refusal = head 82 line ++ count refusal ++ newline ∷ []

@@ -3,7 +3,7 @@ ghost use mathlib.Core.List.{[], _∷_};
 ghost use Prim.Native.Nat.{_+_, _<_, _≤_};
 ghost use lib.ListN.{length};
 ghost use Rattle.digits.specs.Spliced.{Put};
-ghost use Rattle.desk_print.specs.Printed.{count, number, head, numbers, refusedLine, hitLine, endLine};
+ghost use Rattle.desk_print.specs.Printed.{longestNumbers, longestHitLine, count, number, head, numbers, refusedLine, hitLine, endLine};
 use hits::CurveHit;
 use hits::Tally;
 
@@ -41,7 +41,7 @@ fn put_head(out: &mut [u8], at: usize, letter: u8, line: u64) -> usize
 }
 
 fn put_numbers(out: &mut [u8], at: usize, h: CurveHit) -> usize
-    requires { ⌜ at + 68 ≤ length (now out) ⌝ }
+    requires { ⌜ at + longestNumbers ≤ length (now out) ⌝ }
     ensures { λ r. ⌜ Put (now (out .entry)) at (numbers h) r (now (out .exit)) ⌝ }
 {
     let after_a = put_number(out, at, h.t_a);
@@ -60,7 +60,7 @@ pub fn refused_line(out: &mut [u8], line: u64, refusal: u8) -> usize
 }
 
 pub fn hit_line(out: &mut [u8], at: usize, line: u64, i: u64, h: CurveHit) -> usize
-    requires { ⌜ at + 112 ≤ length (now out) ⌝ }
+    requires { ⌜ at + longestHitLine ≤ length (now out) ⌝ }
     ensures { λ r. ⌜ Put (now (out .entry)) at (hitLine line i h) r (now (out .exit)) ⌝ }
 {
     let after_head = put_head(out, at, b'H', line);

@@ -7,6 +7,7 @@ use Rattle.laws.specs.Literal.{zero, one, ten⁻⁹, ten⁻¹²}
 use Rattle.laws.specs.Size.{abs}
 use Rattle.scalar.specs.Clamp.{clamp}
 use Rattle.curves.specs.declared.Point.{Point}
+use Rattle.hits.specs.Hit.{hitOf}
 use Rattle.hits.specs.declared.Crossing.{Crossing}
 use Rattle.hits.specs.declared.Crossing.the-variants.{At, Miss}
 
@@ -26,8 +27,4 @@ intersectSegments a1 a2 b1 b2 =
     cond (lt (abs denom) ten⁻¹²) Miss
     (cond (not (onSegment t_a)) Miss
     (cond (not (onSegment t_b)) Miss
-    (At (record {
-      «t_a» = clamp t_a zero one;
-      «t_b» = clamp t_b zero one;
-      pos = record { x = a1 .x ⊕ t_a ⊗ d1x; y = a1 .y ⊕ t_a ⊗ d1y };
-    }))))
+    (At (hitOf (clamp t_a zero one) (clamp t_b zero one) (record { x = a1 .x ⊕ t_a ⊗ d1x; y = a1 .y ⊕ t_a ⊗ d1y })))))

@@ -5,7 +5,6 @@ ghost use Rattle.segments.specs.Lines.{lineLineIntersection};
 ghost use Rattle.segments.specs.Segments.{onSegment, intersectSegments};
 use curves::Point;
 use hits::Crossing;
-use hits::CurveHit;
 
 // The distance of two points.
 pub fn distance(p: Point, q: Point) -> f64
@@ -91,12 +90,13 @@ pub fn intersect_segments(a1: Point, a2: Point, b1: Point, b2: Point) -> Crossin
     if !on_segment(t_b) {
         return Crossing::Miss;
     }
-    Crossing::At(CurveHit {
-        t_a: scalar::clamp(t_a, 0.0, 1.0),
-        t_b: scalar::clamp(t_b, 0.0, 1.0),
-        pos: Point {
-            x: a1.x + t_a * d1x,
-            y: a1.y + t_a * d1y,
-        },
-    })
+    let pos = Point {
+        x: a1.x + t_a * d1x,
+        y: a1.y + t_a * d1y,
+    };
+    Crossing::At(hits::hit_of(
+        scalar::clamp(t_a, 0.0, 1.0),
+        scalar::clamp(t_b, 0.0, 1.0),
+        pos,
+    ))
 }

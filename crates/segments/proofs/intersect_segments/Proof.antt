@@ -32,9 +32,10 @@ returns-3 c =
 returns-4 : tie.Need-returns-4
 unfolding intersectSegments
 returns-4 c =
-    let clamp2 = c .before .before in
+    let clamp2 = c .before in
     let clamp = clamp2 .before in
-    let test3 = clamp .before in
+    let struct-known17 = clamp .before .before in
+    let test3 = struct-known17 .before in
     let on-segment2 = test3 .before in
     let test2 = on-segment2 .before in
     let on-segment = test2 .before in
@@ -49,6 +50,7 @@ returns-4 c =
       test2 .if2 .left,
       ← on-segment2 .on-segment2 .ensures,
       test3 .if3 .left,
+      c .hit-of .ensures,
       ← clamp .clamp .ensures,
       ← clamp2 .clamp2 .ensures,
     )
@@ -58,4 +60,4 @@ intersect-segments-spec =
     tie.close
     (tie.spec
     (λ c κs. search needs) returns (λ c κs. search needs) returns-2 (λ c κs. search needs) returns-3
-    (λ c κs. search needs) (λ c κs. search needs) returns-4)
+    (λ c κs. search needs) (λ c κs. search needs) (λ c κs. search needs) returns-4)

@@ -40,7 +40,7 @@ end-line-requires c κs =
     let told = rw (t .given .1) at (intersect .intersect .ensures) in
     let (none, is, hits, few) = cross-counted (z .a) (z .b) (z .depth) (z .room .now) (start .pre .0) (t .given .0 .0) _ told in
     let count : t .given .0 .0 .hits ≡ length (curvesOutcome (z .a) (z .b) (z .depth) .hits) = ap (λ (t : Tally). t .hits) is in
-    let put = put-hits .put-hits .ensures _ (z .room .now) count hits in
+    let put = put-hits .put-hits .ensures _ (z .room .now) (record { count = count; numbers = hits }) in
     omega (arith, within put (hits-length _ _ _))
 
 returns : tie.Need-returns
@@ -59,7 +59,7 @@ returns c =
     let told = rw (t .given .1) at (intersect .intersect .ensures) in
     let (none, is, hits, few) = cross-counted (z .a) (z .b) (z .depth) (z .room .now) (start .pre .0) (t .given .0 .0) _ told in
     let count : t .given .0 .0 .hits ≡ length (curvesOutcome (z .a) (z .b) (z .depth) .hits) = ap (λ (t : Tally). t .hits) is in
-    let put = put-hits .put-hits .ensures _ (z .room .now) count hits in
+    let put = put-hits .put-hits .ensures _ (z .room .now) (record { count = count; numbers = hits }) in
     rw none (record { bytes = put-then put (omega arith) (rw is at (end-line .end-line .ensures)); hits = hits })
 
 returns-2 : tie.Need-returns-2

@@ -13,7 +13,7 @@ returns c =
     let put = c .before .before in
     let d = put .before .before .before in
     λ hs lent s. rw (d .d .given .1) (
-      record { count = rw (s .count) (sym (length-append hs (_ ∷ []))); numbers = rw (put .put .ensures, s .numbers, s .count) (put-written hs _ lent) }
+    record { count = rw (s .count) (sym (length-append hs (_ ∷ []))); numbers = rw (put .put .ensures, s .numbers, s .count) (put-written hs _ lent) }
     )
 
 -- the other fates leave no hit

@@ -23,8 +23,8 @@ returns c =
       counts = c .settled .ensures o (h .counts) ∙ ap (λ (x : Fate). tally (settle x o)) d;
       hits =
           keep .keep .ensures (o .hits) lent s .numbers
-              ∙ ap (λ (hs : List CurveHit). written hs lent) (settle-hits (fate .fate .result) o)
-              ∙ ap (λ (x : Fate). written (settle x o .hits) lent) d;
+          ∙ ap (λ (hs : List CurveHit). written hs lent) (settle-hits (fate .fate .result) o)
+          ∙ ap (λ (x : Fate). written (settle x o .hits) lent) d;
     }
 
 pub settle-spec : {M : Type 1} → statement M

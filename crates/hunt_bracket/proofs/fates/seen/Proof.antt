@@ -25,10 +25,12 @@ loop-again c =
     let loop = read .before .before in
     let start = loop .before .before in
     let l = loop .loop in
-    let z = start .args in
-    (omega arith, l .inv .1, 
+    let z = start .args in (
+      omega arith,
+      l .inv .1,
       λ hs lent s.
-      l .inv .2 hs lent s ∙ rw (← c .before .near .ensures, c .if1 .left) at (double-step (z .t) hs lent s (l .i) _ (read .before .loop-test .taken) (read .hit-at .ensures)))
+          l .inv .2 hs lent s ∙ rw (← c .before .near .ensures, c .if1 .left) at (double-step (z .t) hs lent s (l .i) _ (read .before .loop-test .taken) (read .hit-at .ensures)),
+    )
 
 returns : tie.Need-returns Inv-loop μ-loop
 returns c =
