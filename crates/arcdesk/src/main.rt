@@ -2,6 +2,8 @@
 // the libraries', `lines` and `desk`. Here are the bytes, which come in pieces of any size.
 ghost use Prim.Native.Nat.{_≤_};
 ghost use lib.ListN.{length};
+use desk::OUT_NEED;
+use desk::ROOM_NEED;
 use desk::Table;
 use libc::STDIN_FILENO;
 use libc::STDOUT_FILENO;
@@ -168,8 +170,8 @@ fn finish(s: State, line: &[u8], room: &mut [f64], out: &mut [u8]) {
 
 fn main() {
     let mut line = [0u8; 257];
-    let mut room = [0.0; 8192];
-    let mut out = [0u8; 262144];
+    let mut room = [0.0; ROOM_NEED];
+    let mut out = [0u8; OUT_NEED];
     let s = read_all(&mut line, &mut room, &mut out);
     finish(s, &line, &mut room, &mut out);
 }

@@ -5,7 +5,19 @@ use arcs::Hunted;
 use arcs::Number;
 use curves::Arc;
 use curves::Point;
+use hits::HIT;
 use libc::STDOUT_FILENO;
+
+// The numbers of two hits, and of a hit in each cell of a depth.
+const TWO: usize = 2 * HIT;
+
+const DEPTH_0: usize = 256 * HIT;
+
+const DEPTH_1: usize = 512 * HIT;
+
+const DEPTH_2: usize = 1024 * HIT;
+
+const DEPTH_3: usize = 2048 * HIT;
 
 fn print(words: &[u8]) {
     io::write_all(STDOUT_FILENO, words);
@@ -117,25 +129,26 @@ fn run_rooms() {
     let b = Point { x: 0.0, y: 2.0 };
     let c = Point { x: 2.0, y: 0.0 };
     let d = Point { x: -2.0, y: 0.0 };
-    let mut three = [0.0; 3];
-    let mut four = [0.0; 4];
-    let mut seven = [0.0; 7];
-    let mut eight = [0.0; 8];
+    let mut one_less = [0.0; HIT - 1];
+    let mut one = [0.0; HIT];
+    let mut two_less = [0.0; TWO - 1];
+    let mut two = [0.0; TWO];
+    print_count(b"two segments, room of ", HIT as u64);
+    print_found(b": ", arcs::intersect_segments(origin(), a, b, c, &mut one));
+    print_count(b"room of ", (HIT - 1) as u64);
     print_found(
-        b"two segments, room of 4: ",
-        arcs::intersect_segments(origin(), a, b, c, &mut four),
+        b": ",
+        arcs::intersect_segments(origin(), a, b, c, &mut one_less),
     );
+    print_count(b"a segment and a circle, room of ", TWO as u64);
     print_found(
-        b"room of 3: ",
-        arcs::intersect_segments(origin(), a, b, c, &mut three),
+        b": ",
+        arcs::intersect_segment_arc(d, c, whole(origin(), 1.0, false), &mut two),
     );
+    print_count(b"room of ", (TWO - 1) as u64);
     print_found(
-        b"a segment and a circle, room of 8: ",
-        arcs::intersect_segment_arc(d, c, whole(origin(), 1.0, false), &mut eight),
-    );
-    print_found(
-        b"room of 7: ",
-        arcs::intersect_segment_arc(d, c, whole(origin(), 1.0, false), &mut seven),
+        b": ",
+        arcs::intersect_segment_arc(d, c, whole(origin(), 1.0, false), &mut two_less),
     );
 }
 
@@ -155,9 +168,9 @@ fn hole() -> Arc {
 }
 
 fn run_gasket() {
-    let mut less = [0.0; 1023];
-    let mut room = [0.0; 1024];
-    let mut twice = [0.0; 2048];
+    let mut less = [0.0; DEPTH_0 - 1];
+    let mut room = [0.0; DEPTH_0];
+    let mut twice = [0.0; DEPTH_1];
     print_hunted(
         b"P10, depth 0: ",
         arcs::intersect_arcs(flange(), hole(), 0, &mut room),
@@ -174,10 +187,8 @@ fn run_gasket() {
         b"as curves: ",
         arcs::intersect(Curve::Arc(hole()), Curve::Arc(flange()), 0, &mut room),
     );
-    print_hunted(
-        b"room of 1023: ",
-        arcs::intersect_arcs(flange(), hole(), 0, &mut less),
-    );
+    print_count(b"room of ", (DEPTH_0 - 1) as u64);
+    print_hunted(b": ", arcs::intersect_arcs(flange(), hole(), 0, &mut less));
     print_hunted(
         b"depth 4: ",
         arcs::intersect_arcs(flange(), hole(), 4, &mut less),
@@ -190,10 +201,10 @@ fn on_the_circle() -> Arc {
 }
 
 fn run_full_rooms() {
-    let mut room = [0.0; 1024];
-    let mut twice = [0.0; 2048];
-    let mut more = [0.0; 4096];
-    let mut most = [0.0; 8192];
+    let mut room = [0.0; DEPTH_0];
+    let mut twice = [0.0; DEPTH_1];
+    let mut more = [0.0; DEPTH_2];
+    let mut most = [0.0; DEPTH_3];
     let circle = whole(origin(), 1.0, false);
     print_hunted(
         b"a point on the circle, depth 0: ",
