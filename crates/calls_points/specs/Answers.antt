@@ -11,16 +11,16 @@ use Rattle.arc.specs.Frame.{arcRadii, arcThetaOfPos, arcParamAtPoint}
 use Rattle.segments.specs.Project.{pointToSegmentDist, projectOntoSegment}
 use Rattle.segments.specs.Lines.{lineLineIntersection}
 use Rattle.checks.specs.Given.{Given, coordinate, angle, point, arcNumbers}
-use Rattle.checks.specs.Refusal.{refusalOf, orLater}
+use Rattle.checks.specs.Refusal.{numbersRefusal, orLater}
 use Rattle.checks.specs.Answer.{Answer, answered}
 use Rattle.calls_points.specs.InSpan.{spanRefusal, spanNumber}
 
 -- a call with neither depth nor room is refused by its numbers alone
 abbrev pub oneNumber : List Given → Float → Answer
-oneNumber gs x = answered (refusalOf gs 0 0 0) (x ∷ []) []
+oneNumber gs x = answered (numbersRefusal gs) (x ∷ []) []
 
 abbrev pub position : List Given → Point → Answer
-position gs p = answered (refusalOf gs 0 0 0) (p .x ∷ p .y ∷ []) []
+position gs p = answered (numbersRefusal gs) (p .x ∷ p .y ∷ []) []
 
 -- ---- points and tangents
 unfoldable pub ellipsePointAnswer : Point → Float → Float → Float → Float → Answer
@@ -55,13 +55,13 @@ lineLineIntersectionAnswer p1 p2 p3 p4 = position (point p1 ++ point p2 ++ point
 unfoldable pub normTauAnswer : Float → Answer
 normTauAnswer v = oneNumber (angle v ∷ []) (normTau v)
 
--- 6 after the numbers' own refusals
+-- outside the span, after the numbers' own refusals
 unfoldable pub arcParamInSpanAnswer : Arc → Float → Answer
 arcParamInSpanAnswer a theta =
-    answered (orLater (refusalOf (arcNumbers a ++ angle theta ∷ []) 0 0 0) (spanRefusal (arcParamInSpan a theta))) (spanNumber (arcParamInSpan a theta) ∷ []) []
+    answered (orLater (numbersRefusal (arcNumbers a ++ angle theta ∷ [])) (spanRefusal (arcParamInSpan a theta))) (spanNumber (arcParamInSpan a theta) ∷ []) []
 
 unfoldable pub arcRadiiAnswer : Arc → Answer
-arcRadiiAnswer a = answered (refusalOf (arcNumbers a) 0 0 0) (arcRadii a .a ∷ arcRadii a .b ∷ []) []
+arcRadiiAnswer a = answered (numbersRefusal (arcNumbers a)) (arcRadii a .a ∷ arcRadii a .b ∷ []) []
 
 unfoldable pub arcThetaOfPosAnswer : Arc → Point → Answer
 arcThetaOfPosAnswer a p = oneNumber (arcNumbers a ++ point p) (arcThetaOfPos a p)

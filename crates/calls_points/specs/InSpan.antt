@@ -4,10 +4,11 @@ use lib.Ieee.{Float}
 use Rattle.laws.specs.Literal.{zero}
 use Rattle.arc.specs.declared.InSpan.{InSpan}
 use Rattle.arc.specs.declared.InSpan.the-variants.{At, Outside}
+use Rattle.checks.specs.Refusal.{accepted, outsideSpan}
 
 abbrev pub spanRefusal : InSpan → ℕ
-spanRefusal (At t) = 0
-spanRefusal Outside = 6
+spanRefusal (At t) = accepted
+spanRefusal Outside = outsideSpan
 
 -- outside there is no value; a refusal gives none
 abbrev pub spanNumber : InSpan → Float

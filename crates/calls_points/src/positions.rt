@@ -17,7 +17,7 @@ pub fn ellipse_point(center: Point, rx: f64, ry: f64, rot: f64, t: f64) -> Pair
     );
     let f = checks::angle(checks::angle(radii, rot), t);
     checks::as_pair(
-        checks::refusal(f, 0, 0, 0),
+        checks::refusal(f, false, false),
         arc::ellipse_point(center, rx, ry, rot, t),
     )
 }
@@ -28,7 +28,7 @@ pub fn ellipse_tangent(rx: f64, ry: f64, rot: f64, t: f64) -> Pair
     let radii = checks::coordinate(checks::coordinate(checks::none(), rx), ry);
     let f = checks::angle(checks::angle(radii, rot), t);
     checks::as_pair(
-        checks::refusal(f, 0, 0, 0),
+        checks::refusal(f, false, false),
         arc::ellipse_tangent(rx, ry, rot, t),
     )
 }
@@ -37,21 +37,21 @@ pub fn arc_point_at(a: Arc, t: f64) -> Pair
     ensures { λ r. ⌜ pairTold r ≡ arcPointAtAnswer a t ⌝ }
 {
     let f = checks::angle(checks::arc(checks::none(), a), t);
-    checks::as_pair(checks::refusal(f, 0, 0, 0), arc::arc_point_at(a, t))
+    checks::as_pair(checks::refusal(f, false, false), arc::arc_point_at(a, t))
 }
 
 pub fn arc_tangent_at(a: Arc, t: f64) -> Pair
     ensures { λ r. ⌜ pairTold r ≡ arcTangentAtAnswer a t ⌝ }
 {
     let f = checks::angle(checks::arc(checks::none(), a), t);
-    checks::as_pair(checks::refusal(f, 0, 0, 0), arc::arc_tangent_at(a, t))
+    checks::as_pair(checks::refusal(f, false, false), arc::arc_tangent_at(a, t))
 }
 
 pub fn arc_start_pos(a: Arc) -> Pair
     ensures { λ r. ⌜ pairTold r ≡ arcStartPosAnswer a ⌝ }
 {
     checks::as_pair(
-        checks::refusal(checks::arc(checks::none(), a), 0, 0, 0),
+        checks::refusal(checks::arc(checks::none(), a), false, false),
         arc::arc_start_pos(a),
     )
 }
@@ -60,7 +60,7 @@ pub fn arc_end_pos(a: Arc) -> Pair
     ensures { λ r. ⌜ pairTold r ≡ arcEndPosAnswer a ⌝ }
 {
     checks::as_pair(
-        checks::refusal(checks::arc(checks::none(), a), 0, 0, 0),
+        checks::refusal(checks::arc(checks::none(), a), false, false),
         arc::arc_end_pos(a),
     )
 }
@@ -70,7 +70,7 @@ pub fn point_to_segment_dist(p: Point, a: Point, b: Point) -> Number
 {
     let f = checks::point(checks::point(checks::point(checks::none(), p), a), b);
     checks::as_number(
-        checks::refusal(f, 0, 0, 0),
+        checks::refusal(f, false, false),
         segments::point_to_segment_dist(p, a, b),
     )
 }
@@ -80,7 +80,7 @@ pub fn project_onto_segment(p: Point, a: Point, b: Point) -> Pair
 {
     let f = checks::point(checks::point(checks::point(checks::none(), p), a), b);
     checks::as_pair(
-        checks::refusal(f, 0, 0, 0),
+        checks::refusal(f, false, false),
         segments::project_onto_segment(p, a, b),
     )
 }
@@ -93,7 +93,7 @@ pub fn line_line_intersection(p1: Point, p2: Point, p3: Point, p4: Point) -> Pai
         p4,
     );
     checks::as_pair(
-        checks::refusal(f, 0, 0, 0),
+        checks::refusal(f, false, false),
         segments::line_line_intersection(p1, p2, p3, p4),
     )
 }

@@ -11,20 +11,20 @@ use Rattle.construct.specs.Circumscribed.{circumscribedArc}
 use Rattle.construct.specs.TangentCircle.{circleTangentThrough}
 use Rattle.earc_fit.specs.Fit.{fitEarcTangent}
 use Rattle.checks.specs.Given.{Given, coordinate, angle, point, arcNumbers}
-use Rattle.checks.specs.Refusal.{refusalOf}
+use Rattle.checks.specs.Refusal.{numbersRefusal}
 use Rattle.checks.specs.Answer.{Answer, answered, withheld}
 use Rattle.calls_shapes.specs.Shape.{nearTold, conversionTold, threePointTold, tangentCircleTold, fitTold}
 
 -- what is found, where the call's numbers are in order: it has neither depth nor room
 abbrev pub found : List Given → Answer → Answer
-found gs told = withheld (refusalOf gs 0 0 0) told
+found gs told = withheld (numbersRefusal gs) told
 
 -- ---- distances and nearest parameters
 unfoldable pub pointToArcDistAnswer : Point → Arc → Answer
 pointToArcDistAnswer p a = found (point p ++ arcNumbers a) (nearTold (pointToArcDist p a))
 
 unfoldable pub nearestArcParamAnswer : Arc → Point → Answer
-nearestArcParamAnswer a p = answered (refusalOf (arcNumbers a ++ point p) 0 0 0) (nearestArcParam a p ∷ []) []
+nearestArcParamAnswer a p = answered (numbersRefusal (arcNumbers a ++ point p)) (nearestArcParam a p ∷ []) []
 
 -- ---- arcs and circles from points
 unfoldable pub svgArcToCenterAnswer : Point → Point → Float → Float → Float → Bool → Bool → Answer

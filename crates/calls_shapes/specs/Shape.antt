@@ -16,6 +16,7 @@ use Rattle.construct.specs.declared.TangentCircle.the-variants as tangentCircle
 use Rattle.earc_fit.specs.declared.Fitted.{Fitted}
 use Rattle.earc_fit.specs.declared.Fit.{Fit}
 use Rattle.earc_fit.specs.declared.Fit.the-variants as fit
+use Rattle.checks.specs.Refusal.{accepted, degenerate}
 use Rattle.checks.specs.Answer.{Answer, refused}
 use Rattle.calls_shapes.specs.declared.answers.Distance.{Distance}
 use Rattle.calls_shapes.specs.declared.answers.Distance.the-variants as distance
@@ -33,41 +34,41 @@ mark b = cond b 1 0
 
 -- ---- what is given back
 abbrev pub nearTold : Near → Answer
-nearTold n = record { refusal = 0; numbers = n .dist ∷ n .pos .x ∷ n .pos .y ∷ []; counts = [] }
+nearTold n = record { refusal = accepted; numbers = n .dist ∷ n .pos .x ∷ n .pos .y ∷ []; counts = [] }
 
 abbrev pub convertedTold : Converted → Answer
-convertedTold c = record { refusal = 0; numbers = c .center .x ∷ c .center .y ∷ c .start ∷ c .end ∷ c .rx ∷ c .ry ∷ []; counts = [] }
+convertedTold c = record { refusal = accepted; numbers = c .center .x ∷ c .center .y ∷ c .start ∷ c .end ∷ c .rx ∷ c .ry ∷ []; counts = [] }
 
 abbrev pub circumscribedTold : Circumscribed → Answer
-circumscribedTold c = record { refusal = 0; numbers = c .center .x ∷ c .center .y ∷ c .radius ∷ c .start ∷ c .end ∷ []; counts = mark (c .ccw) ∷ [] }
+circumscribedTold c = record { refusal = accepted; numbers = c .center .x ∷ c .center .y ∷ c .radius ∷ c .start ∷ c .end ∷ []; counts = mark (c .ccw) ∷ [] }
 
 abbrev pub circleTold : Circle → Answer
-circleTold c = record { refusal = 0; numbers = c .center .x ∷ c .center .y ∷ c .radius ∷ []; counts = [] }
+circleTold c = record { refusal = accepted; numbers = c .center .x ∷ c .center .y ∷ c .radius ∷ []; counts = [] }
 
 abbrev pub ellipseTold : Fitted → Answer
 ellipseTold f =
     record {
-      refusal = 0;
+      refusal = accepted;
       numbers = f .center .x ∷ f .center .y ∷ f .rx ∷ f .ry ∷ f .rotation ∷ f .start ∷ f .end ∷ [];
       counts = mark (f .ccw) ∷ [];
     }
 
--- ---- what the layers find: 5 where the Rust answers `None`
+-- ---- what the layers find, and where the Rust answers `None`
 abbrev pub conversionTold : Conversion → Answer
 conversionTold (conversion.Is c) = convertedTold c
-conversionTold conversion.Degenerate = refused 5
+conversionTold conversion.Degenerate = refused degenerate
 
 abbrev pub threePointTold : ThreePoint → Answer
 threePointTold (threePoint.Is c) = circumscribedTold c
-threePointTold threePoint.Degenerate = refused 5
+threePointTold threePoint.Degenerate = refused degenerate
 
 abbrev pub tangentCircleTold : TangentCircle → Answer
 tangentCircleTold (tangentCircle.Is c) = circleTold c
-tangentCircleTold tangentCircle.Degenerate = refused 5
+tangentCircleTold tangentCircle.Degenerate = refused degenerate
 
 abbrev pub fitTold : Fit → Answer
 fitTold (fit.Is f) = ellipseTold f
-fitTold fit.Degenerate = refused 5
+fitTold fit.Degenerate = refused degenerate
 
 -- ---- what each answer's cases say
 abbrev pub distanceTold : Distance → Answer

@@ -2,6 +2,7 @@
 ghost use mathlib.Core.Path.{_≡_};
 ghost use Rattle.checks.specs.Answer.{withheld};
 ghost use Rattle.calls_shapes.specs.Shape.{nearTold, distanceTold, conversionTold, centerTold, threePointTold, throughTold, tangentCircleTold, tangentTold, fitTold, fittedTold};
+use checks::DEGENERATE;
 use construct::Circle;
 use construct::Circumscribed;
 use construct::Conversion;
@@ -57,7 +58,7 @@ pub fn as_center(no: u8, c: Conversion) -> Center
     if no == 0 {
         return match c {
             Conversion::Is(v) => Center::Is(v),
-            Conversion::Degenerate => Center::Refused(5),
+            Conversion::Degenerate => Center::Refused(DEGENERATE),
         };
     }
     Center::Refused(no)
@@ -69,7 +70,7 @@ pub fn as_through(no: u8, c: ThreePoint) -> Through
     if no == 0 {
         return match c {
             ThreePoint::Is(v) => Through::Is(v),
-            ThreePoint::Degenerate => Through::Refused(5),
+            ThreePoint::Degenerate => Through::Refused(DEGENERATE),
         };
     }
     Through::Refused(no)
@@ -81,7 +82,7 @@ pub fn as_tangent(no: u8, c: TangentCircle) -> Tangent
     if no == 0 {
         return match c {
             TangentCircle::Is(v) => Tangent::Is(v),
-            TangentCircle::Degenerate => Tangent::Refused(5),
+            TangentCircle::Degenerate => Tangent::Refused(DEGENERATE),
         };
     }
     Tangent::Refused(no)
@@ -93,7 +94,7 @@ pub fn as_fitted(no: u8, c: Fit) -> FittedArc
     if no == 0 {
         return match c {
             Fit::Is(v) => FittedArc::Is(v),
-            Fit::Degenerate => FittedArc::Refused(5),
+            Fit::Degenerate => FittedArc::Refused(DEGENERATE),
         };
     }
     FittedArc::Refused(no)

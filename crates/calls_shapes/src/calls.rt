@@ -18,7 +18,7 @@ pub fn point_to_arc_dist(p: Point, a: Arc) -> Distance
 {
     let f = checks::arc(checks::point(checks::none(), p), a);
     answers::as_distance(
-        checks::refusal(f, 0, 0, 0),
+        checks::refusal(f, false, false),
         nearest::point_to_arc_dist(p, a),
     )
 }
@@ -28,7 +28,7 @@ pub fn nearest_arc_param(a: Arc, p: Point) -> Number
 {
     let f = checks::point(checks::arc(checks::none(), a), p);
     checks::as_number(
-        checks::refusal(f, 0, 0, 0),
+        checks::refusal(f, false, false),
         nearest::nearest_arc_param(a, p),
     )
 }
@@ -50,7 +50,7 @@ pub fn svg_arc_to_center(
         rotation,
     );
     answers::as_center(
-        checks::refusal(f, 0, 0, 0),
+        checks::refusal(f, false, false),
         construct::svg_arc_to_center(p1, p2, rx, ry, rotation, large_arc, sweep),
     )
 }
@@ -60,7 +60,7 @@ pub fn circumscribed_arc(p1: Point, p2: Point, p3: Point) -> Through
 {
     let f = checks::point(checks::point(checks::point(checks::none(), p1), p2), p3);
     answers::as_through(
-        checks::refusal(f, 0, 0, 0),
+        checks::refusal(f, false, false),
         construct::circumscribed_arc(p1, p2, p3),
     )
 }
@@ -71,7 +71,7 @@ pub fn circle_tangent_through(s: Point, e: Point, t: Point) -> Tangent
 {
     let f = checks::point(checks::point(checks::point(checks::none(), s), e), t);
     answers::as_tangent(
-        checks::refusal(f, 0, 0, 0),
+        checks::refusal(f, false, false),
         construct::circle_tangent_through(s, e, t),
     )
 }
@@ -83,7 +83,7 @@ pub fn fit_earc_tangent(p1: Point, t1: Point, p2: Point, t2: Point, bulge: f64) 
     let first = checks::point(checks::point(checks::none(), p1), t1);
     let f = checks::coordinate(checks::point(checks::point(first, p2), t2), bulge);
     answers::as_fitted(
-        checks::refusal(f, 0, 0, 0),
+        checks::refusal(f, false, false),
         earc_fit::fit_earc_tangent(p1, t1, p2, t2, bulge),
     )
 }

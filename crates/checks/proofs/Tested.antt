@@ -1,4 +1,4 @@
--- The tests of a call's numbers, over the whole list of them, and what a refusal of 0 tells. Assumes nothing.
+-- The tests of a call's numbers, over the whole list of them, and what it tells that a call is not refused. Assumes nothing.
 use mathlib.Core.Path.{_≡_, refl, sym, ap, _∙_}
 use mathlib.Core.Bool.{Bool, true, false, not, _||_, cond}
 use mathlib.Core.List.{List, [], _∷_, _++_}
@@ -11,7 +11,7 @@ use lib.Ieee.Scale.{finite}
 use Rattle.laws.specs.Size.{abs}
 use Rattle.checks.specs.declared.Faults.{Faults}
 use Rattle.checks.specs.Given.{Given, unreal, beyond, tested}
-use Rattle.checks.specs.Refusal.{refusal}
+use Rattle.checks.specs.Refusal.{accepted, notANumber, beyondLimit, tooDeep, roomTooShort, deepest, deep, refusal}
 
 pub finite-size : (x : Float) → lt (abs x) (inf false) ≡ finite x
 unfolding lt abs
@@ -49,32 +49,27 @@ unfolding tested
 tested-append f [] hs = refl
 tested-append f (g ∷ gs) hs = tested-append (record { unreal = f .unreal || unreal g; beyond = f .beyond || beyond g }) gs hs
 
--- ---- what a refusal of 0 tells of the depth and the room
+-- ---- what no refusal tells of the depth and the room
 
-abbrev chosen : Bool → Bool → Bool → ℕ → ℕ
-chosen a b c n = cond a 1 (cond b 2 (cond c 3 n))
-
-abbrev short : Bool → ℕ
-short d = cond d 4 0
-
-pub unrefused : (f : Faults) (depth need room : ℕ) → refusal f depth need room ≡ 0 → (depth ≤ 3) × (need ≤ room)
+pub unrefused : (f : Faults) (deep short : Bool) → refusal f deep short ≡ accepted → (deep ≡ false) × (short ≡ false)
 unfolding refusal
-unrefused f depth need room = go (f .unreal) (f .beyond) (ltb 3 depth) (ltb room need) refl refl
+unrefused f deep short = go (f .unreal) (f .beyond) deep short
   where
-    go : (a b c d : Bool) → ltb 3 depth ≡ c → ltb room need ≡ d → chosen a b c (short d) ≡ 0 → (depth ≤ 3) × (need ≤ room)
-    go true b c d i j h = let z : _≡_ {A = ℕ} 1 0 = h in absurd (omega arith)
-    go false true c d i j h = let z : _≡_ {A = ℕ} 2 0 = h in absurd (omega arith)
-    go false false true d i j h = let z : _≡_ {A = ℕ} 3 0 = h in absurd (omega arith)
-    go false false false true i j h = let z : _≡_ {A = ℕ} 4 0 = h in absurd (omega arith)
-    go false false false false i j h = (omega (arith, ltb-false 3 depth i), omega (arith, ltb-false room need j))
+    go : (a b c d : Bool) → cond a notANumber (cond b beyondLimit (cond c tooDeep (cond d roomTooShort accepted))) ≡ accepted → (c ≡ false) × (d ≡ false)
+    go true b c d h = let z : _≡_ {A = ℕ} notANumber accepted = h in absurd (omega arith)
+    go false true c d h = let z : _≡_ {A = ℕ} beyondLimit accepted = h in absurd (omega arith)
+    go false false true d h = let z : _≡_ {A = ℕ} tooDeep accepted = h in absurd (omega arith)
+    go false false false true h = let z : _≡_ {A = ℕ} roomTooShort accepted = h in absurd (omega arith)
+    go false false false false h = (refl, refl)
 
--- past depth 3 the need does not matter
-pub refusal-need : (f : Faults) (depth n m room : ℕ) → (depth ≤ 3 → n ≡ m) → refusal f depth n room ≡ refusal f depth m room
+pub not-deep : (depth : ℕ) → deep depth ≡ false → depth ≤ deepest
+not-deep depth e = omega (arith, ltb-false deepest depth e)
+
+-- past the depth's limit the room does not matter
+pub refusal-room : (f : Faults) (depth : ℕ) (short short' : Bool) → (depth ≤ deepest → short ≡ short') → refusal f (deep depth) short ≡ refusal f (deep depth) short'
 unfolding refusal
-refusal-need f depth n m room h = go (f .unreal) (f .beyond) (ltb 3 depth) refl
+refusal-room f depth short short' h = go (deep depth) refl
   where
-    go : (a b c : Bool) → ltb 3 depth ≡ c → chosen a b c (short (ltb room n)) ≡ chosen a b c (short (ltb room m))
-    go true b c i = refl
-    go false true c i = refl
-    go false false true i = refl
-    go false false false i = ap (λ (k : ℕ). short (ltb room k)) (h (omega (arith, ltb-false 3 depth i)))
+    go : (c : Bool) → deep depth ≡ c → refusal f c short ≡ refusal f c short'
+    go true i = refl
+    go false i = ap (λ (s : Bool). refusal f false s) (h (not-deep depth i))

@@ -6,6 +6,7 @@ use mathlib.Core.List.{List, [], _∷_}
 use lib.Dec.{eqb}
 use lib.Ieee.{Float}
 use Rattle.hits.specs.declared.Tally.{Tally}
+use Rattle.checks.specs.Refusal.{accepted}
 use Rattle.checks.specs.declared.Number.{Number}
 use Rattle.checks.specs.declared.Number.the-variants as one
 use Rattle.checks.specs.declared.Pair.{Pair}
@@ -15,7 +16,7 @@ use Rattle.checks.specs.declared.Found.the-variants as found
 use Rattle.checks.specs.declared.Hunted.{Hunted}
 use Rattle.checks.specs.declared.Hunted.the-variants as hunted
 
--- the refusal's number, 0 for none; the numbers given back; the counts
+-- the refusal's number, `accepted` for none; the numbers given back; the counts
 pub record Answer : Type 0 where
   pub refusal : ℕ
   pub numbers : List Float
@@ -27,22 +28,22 @@ refused n = record { refusal = n; numbers = []; counts = [] }
 
 -- what would be told is withheld where n is a refusal
 abbrev pub withheld : ℕ → Answer → Answer
-withheld n told = cond (eqb n 0) told (refused n)
+withheld n told = cond (eqb n accepted) told (refused n)
 
 unfoldable pub answered : ℕ → List Float → List ℕ → Answer
-answered n numbers counts = withheld n (record { refusal = 0; numbers = numbers; counts = counts })
+answered n numbers counts = withheld n (record { refusal = accepted; numbers = numbers; counts = counts })
 
 -- ---- what each enum's cases say
 abbrev pub numberTold : Number → Answer
-numberTold (one.Is x) = record { refusal = 0; numbers = x ∷ []; counts = [] }
+numberTold (one.Is x) = record { refusal = accepted; numbers = x ∷ []; counts = [] }
 numberTold (one.Refused n) = refused n
 
 abbrev pub pairTold : Pair → Answer
-pairTold (two.Are x y) = record { refusal = 0; numbers = x ∷ y ∷ []; counts = [] }
+pairTold (two.Are x y) = record { refusal = accepted; numbers = x ∷ y ∷ []; counts = [] }
 pairTold (two.Refused n) = refused n
 
 abbrev pub foundTold : Found → Answer
-foundTold (found.Hits k) = record { refusal = 0; numbers = []; counts = k ∷ [] }
+foundTold (found.Hits k) = record { refusal = accepted; numbers = []; counts = k ∷ [] }
 foundTold (found.Refused n) = refused n
 
 -- hits, brackets, the three other fates, evaluations
@@ -50,5 +51,5 @@ abbrev pub tallyCounts : Tally → List ℕ
 tallyCounts t = t .hits ∷ t .brackets ∷ t .«outside_a» ∷ t .«outside_b» ∷ t .doubles ∷ t .evaluations ∷ []
 
 abbrev pub huntedTold : Hunted → Answer
-huntedTold (hunted.Counts t) = record { refusal = 0; numbers = []; counts = tallyCounts t }
+huntedTold (hunted.Counts t) = record { refusal = accepted; numbers = []; counts = tallyCounts t }
 huntedTold (hunted.Refused n) = refused n

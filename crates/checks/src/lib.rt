@@ -1,15 +1,37 @@
-// The checks of a call, in 01's order: 1 over all its numbers, then 2, 3, 4; and what the calls answer. specs/Answer.antt says the number and the values of each answer.
+// The checks of a call, in 01's order: 1 over all its numbers, then 2, 3, 4, then the rest; and what the calls answer. specs/Answer.antt says the number and the values of each answer.
 ghost use mathlib.Core.Path.{_≡_};
 ghost use mathlib.Core.List.{[], _∷_};
 ghost use lib.Ieee.{inf, lt};
 ghost use mathlib.Core.Bool.{false, not};
 ghost use Rattle.checks.specs.Given.{coordinate, angle, tested, point, arcNumbers, curveNumbers};
-ghost use Rattle.checks.specs.Refusal.{refusal, unfaulted};
+ghost use Rattle.checks.specs.Refusal.{deep, refusal, unfaulted, orLater};
 ghost use Rattle.checks.specs.Answer.{answered, numberTold, pairTold};
 use curves::Arc;
 use curves::Curve;
 use curves::Point;
 use hits::Tally;
+
+// The refusals by document 01's numbers; 0 is none of them.
+pub const NOT_A_NUMBER: u8 = 1;
+
+pub const BEYOND_LIMIT: u8 = 2;
+
+pub const TOO_DEEP: u8 = 3;
+
+pub const ROOM_TOO_SHORT: u8 = 4;
+
+pub const DEGENERATE: u8 = 5;
+
+pub const OUTSIDE_SPAN: u8 = 6;
+
+pub const MALFORMED_LINE: u8 = 7;
+
+pub const NO_SUCH_RECORD: u8 = 8;
+
+pub const TABLE_FULL: u8 = 9;
+
+// The largest depth that is taken.
+pub const DEEPEST: u32 = 3;
 
 // What the numbers tested so far have shown.
 pub struct Faults {
@@ -88,23 +110,39 @@ pub fn curve(f: Faults, c: Curve) -> Faults
     }
 }
 
-// The number of the first check that fails, and 0 where none does.
-pub fn refusal(f: Faults, depth: u32, need: usize, room: usize) -> u8
-    ensures { λ r. ⌜ r ≡ refusal f depth need room ⌝ }
+pub fn deep(depth: u32) -> bool
+    ensures { λ r. ⌜ r ≡ deep depth ⌝ }
+{
+    DEEPEST < depth
+}
+
+// The number of the first check that fails, and 0 where none does. A call with no depth or no room has false for them.
+pub fn refusal(f: Faults, deep: bool, short: bool) -> u8
+    ensures { λ r. ⌜ r ≡ refusal f deep short ⌝ }
 {
     if f.unreal {
-        return 1;
+        return NOT_A_NUMBER;
     }
     if f.beyond {
-        return 2;
+        return BEYOND_LIMIT;
     }
-    if 3 < depth {
-        return 3;
+    if deep {
+        return TOO_DEEP;
     }
-    if room < need {
-        return 4;
+    if short {
+        return ROOM_TOO_SHORT;
     }
     0
+}
+
+// A later test's refusal, where no earlier one refuses.
+pub fn or_later(earlier: u8, later: u8) -> u8
+    ensures { λ r. ⌜ r ≡ orLater earlier later ⌝ }
+{
+    if earlier == 0 {
+        return later;
+    }
+    earlier
 }
 
 pub enum Number {

@@ -1,5 +1,4 @@
 -- `checks::refusal` meets its contract, test by test. Assumes nothing.
-use borrow.Author.Tests.{lt-ltb, le-ltb}
 use Rattle.checks.specs.Refusal.{refusal}
 use Rattle.checks.proofs.refusal.Statement.{statement}
 use Rattle.checks.proofs.refusal.Tie as tie
@@ -14,15 +13,15 @@ returns-2 c = rw (c .before .if1 .left, c .if2 .taken)
 
 returns-3 : tie.Need-returns-3
 unfolding refusal
-returns-3 c = rw (c .before .before .if1 .left, c .before .if2 .left, lt-ltb _ _ (c .if3 .taken))
+returns-3 c = rw (c .before .before .if1 .left, c .before .if2 .left, c .if3 .taken)
 
 returns-4 : tie.Need-returns-4
 unfolding refusal
-returns-4 c = rw (c .before .before .before .if1 .left, c .before .before .if2 .left, le-ltb _ _ (c .before .if3 .left), lt-ltb _ _ (c .if4 .taken))
+returns-4 c = rw (c .before .before .before .if1 .left, c .before .before .if2 .left, c .before .if3 .left, c .if4 .taken)
 
 returns-5 : tie.Need-returns-5
 unfolding refusal
-returns-5 c = rw (c .before .before .before .if1 .left, c .before .before .if2 .left, le-ltb _ _ (c .before .if3 .left), le-ltb _ _ (c .if4 .left))
+returns-5 c = rw (c .before .before .before .if1 .left, c .before .before .if2 .left, c .before .if3 .left, c .if4 .left)
 
 pub refusal-spec : {M : Type 1} → statement M
 refusal-spec = tie.close (tie.spec returns returns-2 returns-3 returns-4 returns-5)

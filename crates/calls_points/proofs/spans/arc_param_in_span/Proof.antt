@@ -7,8 +7,9 @@ use Rattle.calls_points.proofs.spans.arc_param_in_span.Tie as tie
 returns : tie.Need-returns
 unfolding arcParamInSpanAnswer tested
 returns c =
-    let span-refusal = c .before .before in
-    let refusal = span-refusal .before in
+    let or-later = c .before .before in
+    let outside = or-later .before in
+    let refusal = outside .before in
     let arc-param-in-span = refusal .before in
     let angle = arc-param-in-span .before in
     let arc = angle .before in
@@ -16,7 +17,8 @@ returns c =
     rw (
       c .as-number .ensures,
       c .before .span-number .ensures,
-      span-refusal .span-refusal .ensures,
+      or-later .or-later .ensures,
+      outside .outside .ensures,
       refusal .refusal .ensures,
       arc-param-in-span .arc-param-in-span .ensures,
       angle .angle .ensures,
@@ -28,4 +30,4 @@ pub arc-param-in-span-spec : {M : Type 1} → statement M
 arc-param-in-span-spec =
     tie.close
     (tie.spec
-    (λ c κs. tt) (λ c κs. tt) (λ c κs. tt) (λ c κs. tt) (λ c κs. tt) (λ c κs. tt) (λ c κs. tt) (λ c κs. tt) returns)
+    (λ c κs. tt) (λ c κs. tt) (λ c κs. tt) (λ c κs. tt) (λ c κs. tt) (λ c κs. tt) (λ c κs. tt) (λ c κs. tt) (λ c κs. tt) returns)
