@@ -13,25 +13,31 @@ use Rattle.hits.specs.declared.Crossing.{Crossing}
 use Rattle.hits.specs.declared.Crossing.the-variants.{At, Miss}
 use Rattle.hits.specs.declared.Crossings.{Crossings}
 use Rattle.hits.specs.declared.Crossings.the-variants.{None, One, Two}
+use Rattle.hits.specs.declared.Lengths.{Lengths}
 use Rattle.hits.specs.Hit.{hitSize, written}
+use Rattle.hits.specs.Need.{short}
+use Rattle.hits.proofs.Needs.{long-enough}
 use Rattle.hits.specs.Listed.{listed, one}
 use Rattle.crossing.specs.Circles.{intersectCircleCircle}
 use Rattle.hunt.specs.Cells.{cells}
 use Rattle.hunt.specs.Hunt.{hunted}
+use Rattle.checks.specs.Given.{Given, tested}
+use Rattle.checks.specs.Refusal.{accepted, deepest, deep, unfaulted, refusalOf}
 use Rattle.checks.specs.Answer.{Answer, answered, refused}
+use Rattle.checks.proofs.Tested.{unrefused, not-deep}
 use Rattle.calls_crossings.specs.Crossed.{Crossed}
-use Rattle.calls_crossings.specs.Need.{closedNeed, pairNeed}
+use Rattle.calls_crossings.specs.Need.{segmentsHits, closedHits, pairHits}
 use Rattle.hits.specs.Outcome.{closed}
 use Rattle.calls_crossings.specs.Pairs.{pairOutcome}
 
 -- ---- a call that is not refused, and one that is
 
-pub crossed-done : (n : ℕ) (hs : List CurveHit) (counts : List ℕ) (before after : List Float) → n ≡ 0 → after ≡ written hs before
-    → Crossed n hs counts before (record { refusal = 0; numbers = []; counts = counts }) after
+pub crossed-done : (n : ℕ) (hs : List CurveHit) (counts : List ℕ) (before after : List Float) → n ≡ accepted → after ≡ written hs before
+    → Crossed n hs counts before (record { refusal = accepted; numbers = []; counts = counts }) after
 unfolding answered
 crossed-done n hs counts before after e r = record { answer = rw e refl; room = rw e r }
 
-pub crossed-refused : (n : ℕ) (hs : List CurveHit) (counts : List ℕ) (before : List Float) → (n ≡ 0 → ⊥) → Crossed n hs counts before (refused n) before
+pub crossed-refused : (n : ℕ) (hs : List CurveHit) (counts : List ℕ) (before : List Float) → (n ≡ accepted → ⊥) → Crossed n hs counts before (refused n) before
 unfolding answered
 crossed-refused n hs counts before h = record { answer = rw (ne-eqb n 0 h) refl; room = rw (ne-eqb n 0 h) refl }
 
@@ -51,28 +57,33 @@ pub listed-one : (c : Crossing) → length (listed (one c)) ≤ 1
 listed-one (At h) = omega arith
 listed-one Miss = omega arith
 
-pub two-fit : (c : Crossings) (n : ℕ) → closedNeed ≤ n → length (listed c) ≤ n / hitSize
+-- ---- a call that is not refused has its depth and its room in order
+
+module _ (gs : List Given) (most : ℕ) (lent : Lengths) where
+  pub room-fits : refusalOf gs false (short most lent) ≡ accepted → most ≤ lent .room / hitSize
+  room-fits e = long-enough most lent (unrefused (tested unfaulted gs) false (short most lent) e .1)
+
+  pub pair-fits : (depth : ℕ) → refusalOf gs (deep depth) (short most lent) ≡ accepted → (depth ≤ deepest) × (most ≤ lent .room / hitSize)
+  pair-fits depth e =
+      let (shallow, wide) = unrefused (tested unfaulted gs) (deep depth) (short most lent) e in
+      (not-deep depth shallow, long-enough most lent wide)
+
+pub two-fit : (c : Crossings) (n : ℕ) → closedHits ≤ n → length (listed c) ≤ n
 two-fit c n h = omega (arith, listed-two c)
 
-pub one-fits : (c : Crossing) (n : ℕ) → hitSize ≤ n → length (listed (one c)) ≤ n / hitSize
+pub one-fits : (c : Crossing) (n : ℕ) → segmentsHits ≤ n → length (listed (one c)) ≤ n
 one-fits c n h = omega (arith, listed-one c)
 
 -- ---- a pair of arcs
 
 module _ (a b : Arc) (depth : ℕ) where
-  pub need-hunted : a .«is_ellipse» || b .«is_ellipse» ≡ true → pairNeed a b depth ≡ hitSize * cells depth
-  unfolding pairNeed
-  need-hunted e = rw e refl
+  pub hits-hunted : a .«is_ellipse» || b .«is_ellipse» ≡ true → pairHits a b depth ≡ cells depth
+  unfolding pairHits
+  hits-hunted e = rw e refl
 
-  pub need-closed : a .«is_ellipse» || b .«is_ellipse» ≡ false → pairNeed a b depth ≡ closedNeed
-  unfolding pairNeed
-  need-closed e = rw e refl
-
-  pub cells-fit : (n : ℕ) → a .«is_ellipse» || b .«is_ellipse» ≡ true → pairNeed a b depth ≤ n → cells depth ≤ n / hitSize
-  cells-fit n e h = quarter (cells depth) n (rw (need-hunted e) at h)
-    where
-      quarter : (k n : ℕ) → 4 * k ≤ n → k ≤ n / 4
-      quarter k n h = omega arith
+  pub hits-closed : a .«is_ellipse» || b .«is_ellipse» ≡ false → pairHits a b depth ≡ closedHits
+  unfolding pairHits
+  hits-closed e = rw e refl
 
   pub pair-hunted : a .«is_ellipse» || b .«is_ellipse» ≡ true → pairOutcome a b depth ≡ hunted a b depth
   unfolding pairOutcome

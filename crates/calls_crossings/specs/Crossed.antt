@@ -8,19 +8,24 @@ use lib.Dec.{eqb}
 use lib.ListN.{length}
 use lib.Ieee.{Float}
 use Rattle.hits.specs.declared.CurveHit.{CurveHit}
+use Rattle.hits.specs.declared.Lengths.{Lengths}
 use Rattle.hits.specs.Hit.{written}
+use Rattle.checks.specs.Refusal.{accepted}
 use Rattle.checks.specs.Answer.{Answer, answered}
 
 -- the refusal n, the hits hs and the counts; the room before; what is told and the room after
 pub record Crossed (n : ℕ) (hs : List CurveHit) (counts : List ℕ) (before : List Float) (told : Answer) (after : List Float) : Type 0 where
   pub answer : told ≡ answered n [] counts
-  pub room : after ≡ cond (eqb n 0) (written hs before) before
+  pub room : after ≡ cond (eqb n accepted) (written hs before) before
 
--- what a call is asked: its refusal by the length of the room, the hits and the counts
+-- what a call is asked: its refusal by the lengths that are lent, the hits and the counts
 pub record HitsAnswer : Type 0 where
-  pub refusal : ℕ → ℕ
+  pub refusal : Lengths → ℕ
   pub hits : List CurveHit
   pub counts : List ℕ
 
+abbrev pub lengths : List Float → Lengths
+lengths room = record { room = length room }
+
 abbrev pub Crosses : HitsAnswer → List Float → Answer → List Float → Type 0
-Crosses q before told after = Crossed (q .refusal (length before)) (q .hits) (q .counts) before told after
+Crosses q before told after = Crossed (q .refusal (lengths before)) (q .hits) (q .counts) before told after

@@ -12,15 +12,16 @@ use Rattle.curves.specs.declared.Curve.the-variants as curve
 use Rattle.checks.specs.Given.{curveNumbers}
 use Rattle.calls_crossings.specs.Crossed.{HitsAnswer}
 use Rattle.calls_crossings.specs.Answers.{huntAnswer}
-use Rattle.calls_crossings.specs.Need.{segmentsNeed, closedNeed, pairNeed}
+use Rattle.calls_crossings.specs.Need.{segmentsHits, closedHits, pairHits}
 use Rattle.hits.specs.Outcome.{closed}
 use Rattle.calls_crossings.specs.Pairs.{pairOutcome}
 
-abbrev pub curvesNeed : Curve → Curve → ℕ → ℕ
-curvesNeed (curve.Segment x1 y1 x2 y2) (curve.Segment u1 v1 u2 v2) depth = segmentsNeed
-curvesNeed (curve.Segment x1 y1 x2 y2) (curve.Arc b) depth = closedNeed
-curvesNeed (curve.Arc a) (curve.Segment u1 v1 u2 v2) depth = closedNeed
-curvesNeed (curve.Arc a) (curve.Arc b) depth = pairNeed a b depth
+-- how many hits they may need room for
+abbrev pub curvesHits : Curve → Curve → ℕ → ℕ
+curvesHits (curve.Segment x1 y1 x2 y2) (curve.Segment u1 v1 u2 v2) depth = segmentsHits
+curvesHits (curve.Segment x1 y1 x2 y2) (curve.Arc b) depth = closedHits
+curvesHits (curve.Arc a) (curve.Segment u1 v1 u2 v2) depth = closedHits
+curvesHits (curve.Arc a) (curve.Arc b) depth = pairHits a b depth
 
 abbrev pub curvesOutcome : Curve → Curve → ℕ → Outcome
 curvesOutcome (curve.Segment x1 y1 x2 y2) (curve.Segment u1 v1 u2 v2) depth = closed (listed (one (intersectSegments (at x1 y1) (at x2 y2) (at u1 v1) (at u2 v2))))
@@ -29,4 +30,4 @@ curvesOutcome (curve.Arc a) (curve.Segment u1 v1 u2 v2) depth = closed (listed (
 curvesOutcome (curve.Arc a) (curve.Arc b) depth = pairOutcome a b depth
 
 abbrev pub curvesAnswer : Curve → Curve → ℕ → HitsAnswer
-curvesAnswer a b depth = huntAnswer (curveNumbers a ++ curveNumbers b) depth (curvesNeed a b depth) (curvesOutcome a b depth)
+curvesAnswer a b depth = huntAnswer (curveNumbers a ++ curveNumbers b) depth (curvesHits a b depth) (curvesOutcome a b depth)

@@ -1,17 +1,20 @@
 // The call on two curves of either kind: it takes any number, checks its own, and refuses by document 01's number.
 ghost use mathlib.Core.Path.{_≡_};
-ghost use Prim.Native.Nat.{_≤_};
+ghost use Prim.Native.Nat.{_≤_, _/_};
 ghost use lib.ListN.{length};
 ghost use Rattle.curves.specs.At.{at};
-ghost use Rattle.hits.specs.Hit.{written};
+ghost use Rattle.hits.specs.Hit.{hitSize, written};
 ghost use Rattle.hits.specs.Outcome.{tally};
+ghost use Rattle.checks.specs.Refusal.{deepest};
 ghost use Rattle.checks.specs.Answer.{huntedTold};
 ghost use Rattle.calls_crossings.specs.Crossed.{Crosses};
-ghost use Rattle.calls_curves.specs.Curves.{curvesNeed, curvesOutcome, curvesAnswer};
+ghost use Rattle.calls_curves.specs.Curves.{curvesHits, curvesOutcome, curvesAnswer};
+use calls_crossings::CLOSED_HITS;
+use calls_crossings::SEGMENTS_HITS;
 use checks::Hunted;
 use curves::Curve;
 use curves::Point;
-use hits::HIT;
+use hits::Lengths;
 use hits::Tally;
 
 fn at(x: f64, y: f64) -> Point
@@ -20,24 +23,25 @@ fn at(x: f64, y: f64) -> Point
     Point { x: x, y: y }
 }
 
-fn need(a: Curve, b: Curve, depth: u32) -> usize
-    ensures { λ r. ⌜ (depth ≤ 3 → r ≡ curvesNeed a b depth) ⌝ }
+// How many hits two curves may need room for; a depth past the deepest is refused before the room.
+fn curves_hits(a: Curve, b: Curve, depth: u32) -> usize
+    ensures { λ r. ⌜ (depth ≤ deepest → r ≡ curvesHits a b depth) ⌝ }
 {
     match a {
         Curve::Segment(_, _, _, _) => match b {
-            Curve::Segment(_, _, _, _) => HIT,
-            Curve::Arc(_) => 2 * HIT,
+            Curve::Segment(_, _, _, _) => SEGMENTS_HITS,
+            Curve::Arc(_) => CLOSED_HITS,
         },
         Curve::Arc(p) => match b {
-            Curve::Segment(_, _, _, _) => 2 * HIT,
-            Curve::Arc(q) => calls_crossings::need(p, q, depth),
+            Curve::Segment(_, _, _, _) => CLOSED_HITS,
+            Curve::Arc(q) => calls_crossings::pair_hits(p, q, depth),
         },
     }
 }
 
 // Two curves whose numbers, depth and room are in order.
 fn cross(a: Curve, b: Curve, depth: u32, room: &mut [f64]) -> Tally
-    requires { ⌜ (depth ≤ 3) × (curvesNeed a b depth ≤ length (now room)) ⌝ }
+    requires { ⌜ (depth ≤ deepest) × (curvesHits a b depth ≤ length (now room) / hitSize) ⌝ }
     ensures { λ r. ⌜ (r ≡ tally (curvesOutcome a b depth)) × (now (room .exit) ≡ written (curvesOutcome a b depth .hits) (now (room .entry))) ⌝ }
 {
     match a {
@@ -68,12 +72,20 @@ fn cross(a: Curve, b: Curve, depth: u32, room: &mut [f64]) -> Tally
     }
 }
 
-// The crossings of two curves. The depth is tested for every pair.
+// The depth is tested for every pair.
+pub fn intersect_refusal(a: Curve, b: Curve, depth: u32, lent: Lengths) -> u8
+    ensures { λ r. ⌜ r ≡ curvesAnswer a b depth .refusal lent ⌝ }
+{
+    let f = checks::curve(checks::curve(checks::none(), a), b);
+    let short = hits::short(curves_hits(a, b, depth), lent);
+    checks::refusal(f, checks::deep(depth), short)
+}
+
+// The crossings of two curves.
 pub fn intersect(a: Curve, b: Curve, depth: u32, room: &mut [f64]) -> Hunted
     ensures { λ r. ⌜ Crosses (curvesAnswer a b depth) (now (room .entry)) (huntedTold r) (now (room .exit)) ⌝ }
 {
-    let f = checks::curve(checks::curve(checks::none(), a), b);
-    let no = checks::refusal(f, depth, need(a, b, depth), room.len());
+    let no = intersect_refusal(a, b, depth, Lengths { room: room.len() });
     if no == 0 {
         return Hunted::Counts(cross(a, b, depth, room));
     }

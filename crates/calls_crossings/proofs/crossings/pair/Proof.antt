@@ -1,7 +1,6 @@
 -- `calls_crossings::crossings::pair` meets its contract. Assumes nothing.
 use native.Mathlib.Omega.{arith}
-use lib.ListN.{length}
-use Rattle.calls_crossings.proofs.Rooms.{cells-fit, need-closed, pair-hunted, pair-closed, two-fit}
+use Rattle.calls_crossings.proofs.Rooms.{hits-hunted, hits-closed, pair-hunted, pair-closed, two-fit}
 use borrow.Author.Needs.{needs}
 use Rattle.calls_crossings.proofs.crossings.pair.Statement.{statement}
 use Rattle.calls_crossings.proofs.crossings.pair.Tie as tie
@@ -11,7 +10,7 @@ hunt-requires c κs =
     let test = c .before in
     let struct-known = test .before .before in
     let start = struct-known .before .before in
-    (omega (arith, start .pre .0), cells-fit (start .args .a) (start .args .b) (start .args .depth) (length (start .args .room .now)) (test .if1 .taken) (start .pre .1))
+    (omega (arith, start .pre .0), rw (hits-hunted (start .args .a) (start .args .b) (start .args .depth) (test .if1 .taken)) at (start .pre .1))
 
 returns : tie.Need-returns
 returns c =
@@ -29,7 +28,7 @@ closed-requires c κs =
     let struct-known = test .before .before in
     let start = struct-known .before .before in
     let a = start .args in
-    two-fit (c .before .intersect-circle-circle .result) (length (a .room .now)) (rw (need-closed (a .a) (a .b) (a .depth) (test .if1 .left)) at (start .pre .1))
+    two-fit (c .before .intersect-circle-circle .result) _ (rw (hits-closed (a .a) (a .b) (a .depth) (test .if1 .left)) at (start .pre .1))
 
 returns-2 : tie.Need-returns-2
 returns-2 c =
