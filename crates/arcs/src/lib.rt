@@ -1,9 +1,13 @@
-// The public library: every call takes any number, checks its own, and refuses by document 01's number. It demands nothing of its caller.
+// The public library: every call takes any number, checks its own, and refuses by document 01's number. It demands nothing of its caller. The refusal of a call with a room can be asked without one.
+pub use calls_crossings::arcs_refusal;
 pub use calls_crossings::hit;
 pub use calls_crossings::intersect_arcs;
 pub use calls_crossings::intersect_segment_arc;
 pub use calls_crossings::intersect_segments;
+pub use calls_crossings::segment_arc_refusal;
+pub use calls_crossings::segments_refusal;
 pub use calls_curves::intersect;
+pub use calls_curves::intersect_refusal;
 pub use calls_points::arc_end_pos;
 pub use calls_points::arc_param_at_point;
 pub use calls_points::arc_param_in_span;

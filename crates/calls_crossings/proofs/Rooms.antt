@@ -1,8 +1,9 @@
 -- The promise of a call with a room: how code comes to it, and that it has one outcome. Assumes nothing.
-use mathlib.Core.Path.{_≡_, refl, sym, ap, _∙_}
-use mathlib.Core.Bool.{Bool, true, false, cond, _||_}
-use mathlib.Core.List.{List, [], _∷_}
-use Prim.Native.Nat.{ℕ, _*_, _/_, _≤_}
+use mathlib.Core.Path.{_≡_, refl, sym, _∙_}
+use mathlib.Core.Bool.{true, false, _||_}
+use mathlib.Core.List.{List, []}
+use Prim.Native.Nat.{ℕ, _/_, _≤_}
+use native.Mathlib.Nat.{le-trans}
 use native.Mathlib.Omega.{arith}
 use borrow.Author.Tests.{ne-eqb}
 use lib.ListN.{length}
@@ -39,23 +40,12 @@ crossed-done n hs counts before after e r = record { answer = rw e refl; room = 
 
 pub crossed-refused : (n : ℕ) (hs : List CurveHit) (counts : List ℕ) (before : List Float) → (n ≡ accepted → ⊥) → Crossed n hs counts before (refused n) before
 unfolding answered
-crossed-refused n hs counts before h = record { answer = rw (ne-eqb n 0 h) refl; room = rw (ne-eqb n 0 h) refl }
+crossed-refused n hs counts before h = record { answer = rw (ne-eqb n accepted h) refl; room = rw (ne-eqb n accepted h) refl }
 
 -- NO SECOND OUTCOME: what is told and the room afterwards are fixed
 pub crossed-unique : (n : ℕ) (hs : List CurveHit) (counts : List ℕ) (before : List Float) (told told' : Answer) (after after' : List Float)
     → Crossed n hs counts before told after → Crossed n hs counts before told' after' → (told ≡ told') × (after ≡ after')
 crossed-unique n hs counts before told told' after after' p q = (p .answer ∙ sym (q .answer), p .room ∙ sym (q .room))
-
--- ---- the closed forms have two hits at most, and two segments one
-
-pub listed-two : (c : Crossings) → length (listed c) ≤ 2
-listed-two None = omega arith
-listed-two (One h) = omega arith
-listed-two (Two h g) = omega arith
-
-pub listed-one : (c : Crossing) → length (listed (one c)) ≤ 1
-listed-one (At h) = omega arith
-listed-one Miss = omega arith
 
 -- ---- a call that is not refused has its depth and its room in order
 
@@ -68,11 +58,22 @@ module _ (gs : List Given) (most : ℕ) (lent : Lengths) where
       let (shallow, wide) = unrefused (tested unfaulted gs) (deep depth) (short most lent) e in
       (not-deep depth shallow, long-enough most lent wide)
 
+-- ---- the closed forms have two hits at most, and two segments one
+
+pub listed-two : (c : Crossings) → length (listed c) ≤ closedHits
+listed-two None = omega arith
+listed-two (One h) = omega arith
+listed-two (Two h g) = omega arith
+
+pub listed-one : (c : Crossing) → length (listed (one c)) ≤ segmentsHits
+listed-one (At h) = omega arith
+listed-one Miss = omega arith
+
 pub two-fit : (c : Crossings) (n : ℕ) → closedHits ≤ n → length (listed c) ≤ n
-two-fit c n h = omega (arith, listed-two c)
+two-fit c n h = le-trans (listed-two c) h
 
 pub one-fits : (c : Crossing) (n : ℕ) → segmentsHits ≤ n → length (listed (one c)) ≤ n
-one-fits c n h = omega (arith, listed-one c)
+one-fits c n h = le-trans (listed-one c) h
 
 -- ---- a pair of arcs
 

@@ -12,6 +12,7 @@ use Rattle.hits.specs.Hit.{written}
 use Rattle.hits.proofs.Rooms.{written-none}
 use Rattle.digits.specs.Spliced.{Put}
 use Rattle.curves.specs.declared.Curve.{Curve}
+use Rattle.checks.specs.Refusal.{accepted, malformedLine}
 use Rattle.calls_curves.specs.Curves.{curvesOutcome}
 use Rattle.desk_line.specs.declared.Line.{Line}
 use Rattle.desk_line.specs.declared.Line.the-variants.{Query, Malformed}
@@ -21,19 +22,19 @@ use Rattle.desk.specs.Table.{recordAt, stored}
 use Rattle.desk.specs.Refused.{recordRefusal, queryRefusal}
 use Rattle.desk_print.specs.Printed.{refusedLine}
 use Rattle.desk.specs.Reply.{nothing, crossed, unless, stays, shown, tableAfter}
-use Rattle.desk.specs.Answer.{After, short, untouched, answer, Shows}
+use Rattle.desk.specs.Answer.{After, roomNeed, outNeed, short, untouched, answer, Shows}
 
-pub enough-all : (room : List Float) (out : List ℕ) → short room out ≡ false → (8192 ≤ length room) × (262144 ≤ length out)
-enough-all room out e = go (ltb (length room) 8192) (ltb (length out) 262144) refl refl e
+pub enough-all : (room : List Float) (out : List ℕ) → short room out ≡ false → (roomNeed ≤ length room) × (outNeed ≤ length out)
+enough-all room out e = go (ltb (length room) roomNeed) (ltb (length out) outNeed) refl refl e
   where
-    go : (a b : Bool) → ltb (length room) 8192 ≡ a → ltb (length out) 262144 ≡ b → a || b ≡ false → (8192 ≤ length room) × (262144 ≤ length out)
+    go : (a b : Bool) → ltb (length room) roomNeed ≡ a → ltb (length out) outNeed ≡ b → a || b ≡ false → (roomNeed ≤ length room) × (outNeed ≤ length out)
     go false false i j e = (ltb-false _ _ i, ltb-false _ _ j)
     go false true i j e = let never : _≡_ {A = ℕ} 0 1 = cc in absurd (omega arith)
     go true b i j e = let never : _≡_ {A = ℕ} 0 1 = cc in absurd (omega arith)
 
 -- a record leaves the room
 unless-nothing : (n line : ℕ) (room : List Float) → room ≡ written (unless n line nothing .hits) room
-unless-nothing n line room = go (eqb n 0)
+unless-nothing n line room = go (eqb n accepted)
   where
     go : (b : Bool) → room ≡ written (cond b nothing (record { bytes = refusedLine line n; hits = [] }) .hits) room
     go true = sym (written-none room)
@@ -41,7 +42,7 @@ unless-nothing n line room = go (eqb n 0)
 
 -- a query leaves the table
 stays-same : (n : ℕ) (t : Table) → t ≡ stays n t t
-stays-same n t = go (eqb n 0)
+stays-same n t = go (eqb n accepted)
   where
     go : (b : Bool) → t ≡ cond b t t
     go true = refl
@@ -84,7 +85,7 @@ module _ (t : Table) (line : ℕ) (room : List Float) (out : List ℕ) where
     unfolding shown tableAfter
     query-answered i j depth table told s = answered-as (Query i j depth) (table ∙ stays-same (queryRefusal t i j depth) t) told (s .bytes) (s .hits)
 
-    pub malformed-answered : r .table ≡ t → r .short ≡ false → Put out 0 (refusedLine line 7) (r .printed) out' → room' ≡ room → after ≡ answer t line Malformed room out
+    pub malformed-answered : r .table ≡ t → r .short ≡ false → Put out 0 (refusedLine line malformedLine) (r .printed) out' → room' ≡ room → after ≡ answer t line Malformed room out
     unfolding shown tableAfter
     malformed-answered table told put e = answered-as Malformed table told put (e ∙ sym (written-none room))
 

@@ -5,7 +5,7 @@ use Prim.Native.Nat.{ℕ, _≤_, _<_}
 use native.Mathlib.Omega.{arith}
 use borrow.Author.Tests.{ltb-true, leb-true}
 use lib.Dec.{leb, ltb}
-use Rattle.checks.specs.Refusal.{refusalOf}
+use Rattle.checks.specs.Refusal.{accepted, noSuchRecord, tableFull, numbersRefusal}
 use Rattle.curves.specs.declared.Curve.{Curve}
 use Rattle.checks.specs.Given.{curveNumbers}
 use Rattle.desk.specs.declared.Table.{Table}
@@ -24,13 +24,13 @@ held-within count k e =
     let (there, few) = both (leb k count) (leb k most) rest in
     (ltb-true 0 k some, leb-true k most few)
 
-pub record-fits : (t : Table) (c : Curve) → recordRefusal t c ≡ 0 → t .count < most
+pub record-fits : (t : Table) (c : Curve) → recordRefusal t c ≡ accepted → t .count < most
 unfolding recordRefusal
 record-fits t c e = go (ltb (t .count) most) refl e
   where
-    go : (b : Bool) → ltb (t .count) most ≡ b → cond b (refusalOf (curveNumbers c) 0 0 0) 9 ≡ 0 → t .count < most
+    go : (b : Bool) → ltb (t .count) most ≡ b → cond b (numbersRefusal (curveNumbers c)) tableFull ≡ accepted → t .count < most
     go true b e = ltb-true (t .count) most b
-    go false b e = let z : _≡_ {A = ℕ} 9 0 = e in absurd (omega arith)
+    go false b e = let z : _≡_ {A = ℕ} tableFull accepted = e in absurd (omega arith)
 
 -- the two looks at the table, and what they make of a query's refusal
 module _ (t : Table) (i j depth : ℕ) {x y : Bool} (p : x ≡ held (t .count) i) (q : y ≡ held (t .count) j) where
@@ -44,6 +44,6 @@ module _ (t : Table) (i j depth : ℕ) {x y : Bool} (p : x ≡ held (t .count) i
   unfolding queryRefusal
   query-held e = rw (first-held e, second-held e) refl
 
-  pub query-missing : x && y ≡ false → queryRefusal t i j depth ≡ 8
+  pub query-missing : x && y ≡ false → queryRefusal t i j depth ≡ noSuchRecord
   unfolding queryRefusal
   query-missing e = rw (← p, ← q, e) refl

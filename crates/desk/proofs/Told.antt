@@ -11,66 +11,76 @@ use lib.ListN.{length, take}
 use lib.Ieee.{Float}
 use Rattle.hits.specs.declared.CurveHit.{CurveHit}
 use Rattle.hits.specs.Hit.{written}
+use Rattle.hits.specs.Need.{short}
+use Rattle.hits.proofs.Needs.{not-short}
 use Rattle.hits.specs.declared.Tally.{Tally}
 use Rattle.hits.specs.Outcome.{tally}
 use Rattle.checks.specs.declared.Hunted.the-variants.{Counts, Refused}
 use Rattle.checks.specs.Given.{tested}
-use Rattle.checks.specs.Refusal.{unfaulted, refusalOf}
+use Rattle.checks.specs.declared.Faults.{Faults}
+use Rattle.checks.specs.Refusal.{accepted, deep, refusal, unfaulted}
 use Rattle.checks.specs.Answer.{Answer, answered, huntedTold, tallyCounts}
-use Rattle.checks.proofs.Tested.{unrefused}
+use Rattle.checks.proofs.Tested.{unrefused, not-deep, refusal-room}
 use Rattle.checks.proofs.Outcomes.{hunted-told-unique}
 use Rattle.curves.specs.declared.Curve.{Curve}
-use Rattle.calls_crossings.specs.Crossed.{Crossed}
+use Rattle.calls_crossings.specs.Crossed.{Crossed, lengths}
 use Rattle.checks.specs.Given.{curveNumbers}
-use Rattle.calls_curves.specs.Curves.{curvesNeed, curvesOutcome}
+use Rattle.calls_curves.specs.Curves.{curvesHits, curvesOutcome}
 use Rattle.desk.specs.Refused.{pairRefusal}
-use Rattle.desk.proofs.Needs.{need-most, hits-most, room-enough}
+use Rattle.desk.specs.Answer.{mostHits, roomNeed}
+use Rattle.desk.proofs.Needs.{need-most, hits-most}
 
 -- an answer with counts is no refusal, and an answer that is one has its number
 module _ (n : ℕ) (hs : List CurveHit) (t : Tally) (before after : List Float) where
-  counted : (u : Tally) → Crossed n hs (tallyCounts t) before (huntedTold (Counts u)) after → (n ≡ 0) × (u ≡ t) × (after ≡ written hs before)
+  counted : (u : Tally) → Crossed n hs (tallyCounts t) before (huntedTold (Counts u)) after → (n ≡ accepted) × (u ≡ t) × (after ≡ written hs before)
   unfolding answered
-  counted u x = go (eqb n 0) refl
+  counted u x = go (eqb n accepted) refl
     where
-      go : (e : Bool) → eqb n 0 ≡ e → (n ≡ 0) × (u ≡ t) × (after ≡ written hs before)
+      go : (e : Bool) → eqb n accepted ≡ e → (n ≡ accepted) × (u ≡ t) × (after ≡ written hs before)
       go true e =
           let same : Counts u ≡ Counts t = hunted-told-unique (Counts u) (Counts t) (rw e at (x .answer)) in
-          (eqb-true n 0 e, cc, rw e at (x .room))
+          (eqb-true n accepted e, cc, rw e at (x .room))
       go false e =
           let zero : 0 ≡ n = ap (λ (a : Answer). a .refusal) (rw e at (x .answer)) in
-          let both : true ≡ false = sym (eq-eqb n 0 (sym zero)) ∙ e in
+          let both : true ≡ false = sym (eq-eqb n accepted (sym zero)) ∙ e in
           let never : _≡_ {A = ℕ} 0 1 = cc in
           absurd (omega arith)
 
-  told : (m : ℕ) → Crossed n hs (tallyCounts t) before (huntedTold (Refused m)) after → (n ≡ m) × (eqb n 0 ≡ false) × (after ≡ before)
+  told : (m : ℕ) → Crossed n hs (tallyCounts t) before (huntedTold (Refused m)) after → (n ≡ m) × (eqb n accepted ≡ false) × (after ≡ before)
   unfolding answered
-  told m x = go (eqb n 0) refl
+  told m x = go (eqb n accepted) refl
     where
-      go : (e : Bool) → eqb n 0 ≡ e → (n ≡ m) × (eqb n 0 ≡ false) × (after ≡ before)
+      go : (e : Bool) → eqb n accepted ≡ e → (n ≡ m) × (eqb n accepted ≡ false) × (after ≡ before)
       go true e =
           let longer : _≡_ {A = ℕ} 0 1 = ap (λ (a : Answer). length (take 1 (a .counts))) (rw e at (x .answer)) in
           absurd (omega arith)
       go false e = (sym (ap (λ (a : Answer). a .refusal) (rw e at (x .answer))), e, rw e at (x .room))
 
-module _ (a b : Curve) (depth : ℕ) (room : List Float) (enough : 8192 ≤ length room) where
+module _ (a b : Curve) (depth : ℕ) (room : List Float) (enough : roomNeed ≤ length room) where
+  abbrev tooShort : Bool
+  tooShort = short (curvesHits a b depth) (lengths room)
+
+  abbrev faults : Faults
+  faults = tested unfaulted (curveNumbers a ++ curveNumbers b)
+
   abbrev asked : ℕ
-  asked = refusalOf (curveNumbers a ++ curveNumbers b) depth (curvesNeed a b depth) (length room)
+  asked = refusal faults (deep depth) tooShort
 
   pair-refusal : asked ≡ pairRefusal a b depth
   unfolding pairRefusal
-  pair-refusal = room-enough (tested unfaulted (curveNumbers a ++ curveNumbers b)) depth (curvesNeed a b depth) (length room) (λ h. le-trans (need-most a b depth h) enough)
+  pair-refusal = refusal-room faults depth tooShort false (λ h. not-short (curvesHits a b depth) (lengths room) (le-trans (need-most a b depth h) enough))
 
   abbrev Tells : Answer → List Float → Type 0
   Tells told after = Crossed asked (curvesOutcome a b depth .hits) (tallyCounts (tally (curvesOutcome a b depth))) room told after
 
   pub cross-counted : (u : Tally) (after : List Float) → Tells (huntedTold (Counts u)) after
-      → (pairRefusal a b depth ≡ 0) × (u ≡ tally (curvesOutcome a b depth)) × (after ≡ written (curvesOutcome a b depth .hits) room) × (length (curvesOutcome a b depth .hits) ≤ 2048)
+      → (pairRefusal a b depth ≡ accepted) × (u ≡ tally (curvesOutcome a b depth)) × (after ≡ written (curvesOutcome a b depth .hits) room) × (length (curvesOutcome a b depth .hits) ≤ mostHits)
   cross-counted u after x =
       let (none, is, hits) = counted asked (curvesOutcome a b depth .hits) (tally (curvesOutcome a b depth)) room after u x in
-      let (deep, wide) = unrefused (tested unfaulted (curveNumbers a ++ curveNumbers b)) depth (curvesNeed a b depth) (length room) none in
-      (sym pair-refusal ∙ none, is, hits, hits-most a b depth deep)
+      let (shallow, wide) = unrefused faults (deep depth) tooShort none in
+      (sym pair-refusal ∙ none, is, hits, hits-most a b depth (not-deep depth shallow))
 
-  pub cross-told : (m : ℕ) (after : List Float) → Tells (huntedTold (Refused m)) after → (pairRefusal a b depth ≡ m) × (eqb (pairRefusal a b depth) 0 ≡ false) × (after ≡ room)
+  pub cross-told : (m : ℕ) (after : List Float) → Tells (huntedTold (Refused m)) after → (pairRefusal a b depth ≡ m) × (eqb (pairRefusal a b depth) accepted ≡ false) × (after ≡ room)
   cross-told m after x =
       let (is, some, hits) = told asked (curvesOutcome a b depth .hits) (tally (curvesOutcome a b depth)) room after m x in
-      (sym pair-refusal ∙ is, ap (λ (n : ℕ). eqb n 0) (sym pair-refusal) ∙ some, hits)
+      (sym pair-refusal ∙ is, ap (λ (n : ℕ). eqb n accepted) (sym pair-refusal) ∙ some, hits)

@@ -1,6 +1,6 @@
--- What a call leaves: the answer, the room and the buffer. A room below 8,192 numbers, the largest need (01: "1,024 times 2^depth"), or a buffer below 262,144 bytes, which 2,048 hit
--- lines and an end line fit, is short: nothing is done. Else the bytes stand at the buffer's start and the hits at the room's, and the rest is as lent. Definitions only.
--- Assumes nothing.
+-- What a call leaves: the answer, the room and the buffer. A room below the largest need (01: "1,024 times 2^depth"), that of one hit in each cell at the deepest, or a buffer below
+-- 262,144 bytes, which as many hit lines and an end line fit, is short: nothing is done. Else the bytes stand at the buffer's start and the hits at the room's, and the rest is as
+-- lent. Definitions only. Assumes nothing.
 use Prim.Native.Nat.{ℕ}
 use mathlib.Core.Path.{_≡_}
 use mathlib.Core.Bool.{Bool, true, false, cond, _||_}
@@ -9,14 +9,21 @@ use lib.Dec.{ltb}
 use lib.ListN.{length}
 use lib.Ieee.{Float}
 use Rattle.hits.specs.Hit.{written}
+use Rattle.hits.specs.Need.{need}
+use Rattle.hunt.specs.Cells.{cells}
+use Rattle.checks.specs.Refusal.{deepest}
 use Rattle.digits.specs.Spliced.{spliced, Put}
 use Rattle.desk_line.specs.declared.Line.{Line}
 use Rattle.desk.specs.declared.Table.{Table}
 use Rattle.desk.specs.declared.Answered.{Answered}
 use Rattle.desk.specs.Reply.{Shown, shown, tableAfter}
 
+-- how many hits a query can have
+abbrev pub mostHits : ℕ
+mostHits = cells deepest
+
 abbrev pub roomNeed : ℕ
-roomNeed = 8192
+roomNeed = need mostHits
 
 abbrev pub outNeed : ℕ
 outNeed = 262144

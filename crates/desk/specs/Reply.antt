@@ -7,6 +7,7 @@ use lib.Dec.{eqb}
 use Rattle.hits.specs.declared.CurveHit.{CurveHit}
 use Rattle.hits.specs.Outcome.{Outcome, tally}
 use Rattle.curves.specs.declared.Curve.the-variants as curve
+use Rattle.checks.specs.Refusal.{accepted}
 use Rattle.calls_curves.specs.Curves.{curvesOutcome}
 use Rattle.desk_line.specs.declared.Line.{Line}
 use Rattle.desk_line.specs.declared.Line.the-variants as says
@@ -31,11 +32,11 @@ crossed line o = record { bytes = hitLines line 1 (o .hits) ++ endLine line (tal
 
 -- what would be shown is not where n is a refusal
 abbrev pub unless : ℕ → ℕ → Shown → Shown
-unless n line s = cond (eqb n 0) s (refused line n)
+unless n line s = cond (eqb n accepted) s (refused line n)
 
 -- what would be the table is not where n is a refusal
 abbrev pub stays : ℕ → Table → Table → Table
-stays n t next = cond (eqb n 0) next t
+stays n t next = cond (eqb n accepted) next t
 
 -- of a line that is not refused, as a malformed one always is
 abbrev pub taken : Table → ℕ → Line → Shown

@@ -13,6 +13,7 @@ ghost use Rattle.desk.specs.Answer.{roomNeed, outNeed, Shows};
 use crate::Table;
 use crate::records;
 use checks::Hunted;
+use checks::NO_SUCH_RECORD;
 use curves::Curve;
 
 // The lines of the hits in the room, numbered from 1.
@@ -66,5 +67,5 @@ pub fn query(
         let b = records::record_at(table, j);
         return cross(a, b, depth, line, room, out);
     }
-    desk_print::refused_line(out, line, 8)
+    desk_print::refused_line(out, line, NO_SUCH_RECORD)
 }

@@ -6,14 +6,16 @@ ghost use Rattle.desk.specs.Answer.{answer};
 mod crossings;
 mod records;
 
+use checks::MALFORMED_LINE;
 use curves::Curve;
 use desk_line::Line;
+use hits::HIT;
 
 // How many records there can be.
 pub const MOST: usize = 64;
 
-// What every query fits: the numbers of its hits, and the bytes of its lines.
-pub const ROOM_NEED: usize = 8192;
+// What every query fits: the numbers of its hits, of which each cell has at most one, and the bytes of its lines.
+pub const ROOM_NEED: usize = HIT * 2048;
 
 pub const OUT_NEED: usize = 262144;
 
@@ -72,7 +74,7 @@ pub fn answer(table: Table, number: u64, line: Line, room: &mut [f64], out: &mut
             }
         }
         Line::Malformed => {
-            let printed = desk_print::refused_line(out, number, 7);
+            let printed = desk_print::refused_line(out, number, MALFORMED_LINE);
             Answered {
                 table: table,
                 printed: printed,

@@ -12,6 +12,7 @@ use crate::Answered;
 use crate::MOST;
 use crate::Place;
 use crate::Table;
+use checks::TABLE_FULL;
 use curves::Curve;
 
 pub fn held(count: usize, k: usize) -> bool
@@ -50,9 +51,9 @@ fn record_refusal(table: Table, c: Curve) -> u8
     ensures { λ r. ⌜ r ≡ recordRefusal table c ⌝ }
 {
     if table.count < MOST {
-        return checks::refusal(checks::curve(checks::none(), c), 0, 0, 0);
+        return checks::refusal(checks::curve(checks::none(), c), false, false);
     }
-    9
+    TABLE_FULL
 }
 
 // A record: the table with it, or a refusal.

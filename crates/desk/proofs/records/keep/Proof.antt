@@ -2,6 +2,7 @@
 use mathlib.Core.Path.{_≡_, refl, sym, _∙_}
 use borrow.Author.Tests.{ne-eqb}
 use Rattle.digits.proofs.Spliced.{put-none}
+use Rattle.checks.specs.Refusal.{accepted}
 use Rattle.desk.specs.Refused.{recordRefusal}
 use Rattle.desk.proofs.Tables.{record-fits}
 use borrow.Author.Needs.{needs}
@@ -16,7 +17,7 @@ returns c =
     let record-refusal = c .before .before in
     let start = record-refusal .before .before in
     let z = start .args in
-    let none : recordRefusal (z .table) (z .c) ≡ 0 = sym (record-refusal .record-refusal .ensures) ∙ c .before .if1 .taken in
+    let none : recordRefusal (z .table) (z .c) ≡ accepted = sym (record-refusal .record-refusal .ensures) ∙ c .before .if1 .taken in
     rw none (c .store .ensures, refl, put-none (z .out .now) 0)
 
 returns-2 : tie.Need-returns-2
@@ -25,7 +26,7 @@ returns-2 c =
     let test = refused-line .before .before in
     let record-refusal = test .before in
     let is = record-refusal .record-refusal .ensures in
-    let some = ne-eqb (record-refusal .record-refusal .result) 0 (test .if1 .left) in
+    let some = ne-eqb (record-refusal .record-refusal .result) accepted (test .if1 .left) in
     rw (← is, some) (refl, refl, refused-line .refused-line .ensures)
 
 pub keep-spec : {M : Type 1} → statement M
