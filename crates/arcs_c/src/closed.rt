@@ -4,7 +4,11 @@ ghost use Rattle.curves.specs.At.{at};
 ghost use Rattle.calls_crossings.specs.Answers.{segmentsAnswer, segmentArcAnswer};
 ghost use Rattle.export_numbers.specs.Lent.{lentArc};
 ghost use Rattle.export_numbers.specs.Exported.{HitsOut, HitOut};
+use checks::ROOM_TOO_SHORT;
 use curves::Point;
+use export_numbers::SHORT;
+use hits::HIT;
+use hits::Lengths;
 
 #[no_mangle]
 pub extern "C" fn arcs_intersect_segments(
@@ -26,9 +30,8 @@ pub extern "C" fn arcs_intersect_segments(
     let b1 = Point { x: bx1, y: by1 };
     let b2 = Point { x: bx2, y: by2 };
     if counts.len() < 1 {
-        // The library refuses a room of one number, after its other refusals.
-        let mut one = [0.0; 1];
-        return export_numbers::found_refusal(arcs::intersect_segments(a1, a2, b1, b2, &mut one));
+        let no = arcs::segments_refusal(a1, a2, b1, b2, Lengths { room: room.len() });
+        return checks::or_later(no, ROOM_TOO_SHORT) as u32;
     }
     let f = arcs::intersect_segments(a1, a2, b1, b2, room);
     export_numbers::count_found(f, counts);
@@ -52,15 +55,15 @@ pub extern "C" fn arcs_intersect_segment_arc(
     let p2 = Point { x: x2, y: y2 };
     let q = export_numbers::arc(a, a_marks);
     if counts.len() < 1 {
-        let mut one = [0.0; 1];
-        return export_numbers::found_refusal(arcs::intersect_segment_arc(p1, p2, q, &mut one));
+        let no = arcs::segment_arc_refusal(p1, p2, q, Lengths { room: room.len() });
+        return checks::or_later(no, ROOM_TOO_SHORT) as u32;
     }
     let f = arcs::intersect_segment_arc(p1, p2, q, room);
     export_numbers::count_found(f, counts);
     export_numbers::found_refusal(f)
 }
 
-// The four numbers of the hit i of so many to `out`, and to `counts` how many they are: 4, or 0 where there is no such hit.
+// The numbers of the hit i of so many to `out`, and to `counts` how many they are: 0 where there is no such hit.
 #[no_mangle]
 pub extern "C" fn arcs_hit(
     room: &[f64],
@@ -71,11 +74,11 @@ pub extern "C" fn arcs_hit(
 ) -> u32
     ensures { λ r. ⌜ HitOut (hitPart (now (room .entry)) count i) (now (out .entry)) (now (counts .entry)) r (now (out .exit)) (now (counts .exit)) ⌝ }
 {
-    if out.len() < 4 {
-        return 4;
+    if out.len() < HIT {
+        return SHORT;
     }
     if counts.len() < 1 {
-        return 4;
+        return SHORT;
     }
     let part = arcs::hit(room, count, i);
     export_numbers::place(part, out);

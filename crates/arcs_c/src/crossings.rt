@@ -3,6 +3,8 @@ ghost use Rattle.calls_crossings.specs.Answers.{arcsAnswer};
 ghost use Rattle.calls_curves.specs.Curves.{curvesAnswer};
 ghost use Rattle.export_numbers.specs.Lent.{lentArc, lentCurve};
 ghost use Rattle.export_numbers.specs.Exported.{HitsOut};
+use checks::ROOM_TOO_SHORT;
+use hits::Lengths;
 
 // Hits, brackets, the brackets outside a, outside b and double, and the evaluations go to `counts`.
 #[no_mangle]
@@ -21,9 +23,8 @@ pub extern "C" fn arcs_intersect_arcs(
     let p = export_numbers::arc(a, a_marks);
     let q = export_numbers::arc(b, b_marks);
     if counts.len() < 6 {
-        // The library refuses a room of one number, after its other refusals.
-        let mut one = [0.0; 1];
-        return export_numbers::hunted_refusal(arcs::intersect_arcs(p, q, depth, &mut one));
+        let no = arcs::arcs_refusal(p, q, depth, Lengths { room: room.len() });
+        return checks::or_later(no, ROOM_TOO_SHORT) as u32;
     }
     let h = arcs::intersect_arcs(p, q, depth, room);
     export_numbers::count_hunted(h, counts);
@@ -47,8 +48,8 @@ pub extern "C" fn arcs_intersect(
     let p = export_numbers::curve(a, a_marks);
     let q = export_numbers::curve(b, b_marks);
     if counts.len() < 6 {
-        let mut one = [0.0; 1];
-        return export_numbers::hunted_refusal(arcs::intersect(p, q, depth, &mut one));
+        let no = arcs::intersect_refusal(p, q, depth, Lengths { room: room.len() });
+        return checks::or_later(no, ROOM_TOO_SHORT) as u32;
     }
     let h = arcs::intersect(p, q, depth, room);
     export_numbers::count_hunted(h, counts);

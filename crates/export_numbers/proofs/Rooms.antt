@@ -1,26 +1,19 @@
 -- From what the library tells to what an export gives. Assumes nothing.
 use mathlib.Core.Path.{_≡_, refl, sym, _∙_}
-use mathlib.Core.Bool.{Bool, true, false, cond, _||_, _&&_}
+use mathlib.Core.Bool.{Bool, true, false, cond, _&&_}
 use mathlib.Core.List.{List, [], _∷_, _++_, append-nil}
-use Prim.Native.Nat.{ℕ, _+_, _*_, _^_, _≤_, _<_}
+use Prim.Native.Nat.{ℕ, _+_, _*_, _≤_, _<_}
 use native.Mathlib.Omega.{arith}
 use borrow.Author.Tests.{lt-ltb, le-ltb, eqb-true}
 use lib.Dec.{eqb, ltb, leb}
 use lib.ListN.{length, take, drop, length-take}
 use lib.IntN.{pos}
 use lib.Ieee.{Float, binary64, ofInt}
-use lib.Pow.{pow-pos}
-use Rattle.curves.specs.declared.Arc.{Arc}
 use Rattle.rooms.specs.Laid.{over}
 use Rattle.hits.specs.Hit.{hitSize, hitPart}
-use Rattle.checks.specs.declared.Faults.{Faults}
 use Rattle.checks.specs.Answer.{Answer, answered, refused}
-use Rattle.calls_crossings.specs.Crossed.{HitsAnswer, Crosses}
-use Rattle.checks.specs.Refusal.{refusal, orLater}
-use Rattle.curves.specs.declared.Curve.{Curve}
-use Rattle.curves.specs.declared.Curve.the-variants as curve
-use Rattle.calls_crossings.specs.Need.{pairNeed}
-use Rattle.calls_curves.specs.Curves.{curvesNeed}
+use Rattle.calls_crossings.specs.Crossed.{HitsAnswer, lengths, Crosses}
+use Rattle.checks.specs.Refusal.{accepted, roomTooShort, orLater}
 use Rattle.export_numbers.specs.Exported.{short, withRoom, NumbersWritten, NumbersOut, floats, HitsOut, HitOut}
 
 -- ---- numbers
@@ -51,9 +44,9 @@ refused-out need lent {number} e g = rw e (record { refusal = g; values = go (eq
 module _ (q : HitsAnswer) {room after : List Float} {told : Answer} {lent lent' : List ℕ} where
   pub hits-out : Crosses q room told after → length (q .counts) ≤ length lent → lent' ≡ over (told .counts) lent → HitsOut q room lent (told .refusal) after lent'
   unfolding answered
-  hits-out c fit e = go (eqb (q .refusal (length room)) 0) refl
+  hits-out c fit e = go (eqb (q .refusal (lengths room)) accepted) refl
     where
-      go : (b : Bool) → eqb (q .refusal (length room)) 0 ≡ b → HitsOut q room lent (told .refusal) after lent'
+      go : (b : Bool) → eqb (q .refusal (lengths room)) accepted ≡ b → HitsOut q room lent (told .refusal) after lent'
       go true i = record {
         refusal = rw (c .answer, i, le-ltb _ _ fit) refl;
         hits = rw (c .room, c .answer, i) refl;
@@ -65,54 +58,22 @@ module _ (q : HitsAnswer) {room after : List Float} {told : Answer} {lent lent' 
         told = rw (e, c .answer, i, i) refl;
       }
 
--- ---- hits, where the counts do not fit
+-- ---- hits, where the counts do not fit: the call's own refusal, and the room's where it has none
 
--- a room too short for the need is refused as a longer one is, and with 4 where that one is taken
-pub refusal-short : (f : Faults) (depth need room little : ℕ) → little < need → refusal f depth need little ≡ orLater (refusal f depth need room) 4
-unfolding refusal
-refusal-short f depth need room little h = rw (lt-ltb _ _ h) (go (f .unreal) (f .beyond) (ltb 3 depth) (ltb room need))
+later-short : (n : ℕ) → eqb (orLater n roomTooShort) accepted ≡ false
+later-short n = go (eqb n accepted) refl
   where
-    go : (a b c d : Bool) → cond a 1 (cond b 2 (cond c 3 4)) ≡ orLater (cond a 1 (cond b 2 (cond c 3 (cond d 4 0)))) 4
-    go true b c d = refl
-    go false true c d = refl
-    go false false true d = refl
-    go false false false true = refl
-    go false false false false = refl
-
-later-four : (n : ℕ) → eqb (orLater n 4) 0 ≡ false
-later-four n = go (eqb n 0) refl
-  where
-    go : (b : Bool) → eqb n 0 ≡ b → eqb (cond b 4 n) 0 ≡ false
+    go : (b : Bool) → eqb n accepted ≡ b → eqb (cond b roomTooShort n) accepted ≡ false
     go true i = refl
     go false i = i
 
--- the library is called with a little room; the caller's stays as it was
-module _ (q : HitsAnswer) {little after room : List Float} {told : Answer} {lent : List ℕ} where
-  pub hits-short : Crosses q little told after → q .refusal (length little) ≡ orLater (q .refusal (length room)) 4 → length lent < length (q .counts) → HitsOut q room lent (told .refusal) room lent
-  unfolding answered
-  hits-short c e short =
-      let refused : told .refusal ≡ orLater (q .refusal (length room)) 4 = rw (c .answer, e, later-four (q .refusal (length room))) refl in
-      record {
-        refusal = rw (lt-ltb _ _ short) refused;
-        hits = rw (refused, later-four (q .refusal (length room))) refl;
-        told = rw (refused, later-four (q .refusal (length room))) refl;
-      }
-
--- a pair of arcs needs more than one number
-pub pair-needs : (a b : Arc) (depth : ℕ) → 1 < pairNeed a b depth
-unfolding pairNeed
-pair-needs a b depth = go (a .«is_ellipse» || b .«is_ellipse»)
-  where
-    go : (e : Bool) → 1 < cond e (4 * (256 * 2 ^ depth)) 8
-    go true = omega (arith, pow-pos depth)
-    go false = omega arith
-
--- and so does every pair of curves
-pub curves-need : (a b : Curve) (depth : ℕ) → 1 < curvesNeed a b depth
-curves-need (curve.Segment x1 y1 x2 y2) (curve.Segment u1 v1 u2 v2) depth = omega arith
-curves-need (curve.Segment x1 y1 x2 y2) (curve.Arc b) depth = omega arith
-curves-need (curve.Arc a) (curve.Segment u1 v1 u2 v2) depth = omega arith
-curves-need (curve.Arc a) (curve.Arc b) depth = pair-needs a b depth
+module _ (q : HitsAnswer) {room : List Float} {lent : List ℕ} {number : ℕ} where
+  pub hits-short : number ≡ orLater (q .refusal (lengths room)) roomTooShort → length lent < length (q .counts) → HitsOut q room lent number room lent
+  hits-short is short = record {
+    refusal = rw (lt-ltb _ _ short) is;
+    hits = rw (is, later-short (q .refusal (lengths room))) refl;
+    told = rw (is, later-short (q .refusal (lengths room))) refl;
+  }
 
 -- ---- one hit
 

@@ -9,6 +9,7 @@ pub use counts::found_refusal;
 pub use counts::hunted_refusal;
 pub use numbers::arc;
 pub use numbers::curve;
+pub use out::SHORT;
 pub use out::place;
 pub use out::write;
 pub use out::write_center;

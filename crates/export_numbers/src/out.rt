@@ -13,6 +13,10 @@ use calls_shapes::Tangent;
 use calls_shapes::Through;
 use checks::Number;
 use checks::Pair;
+use checks::ROOM_TOO_SHORT;
+
+// The refusal of a room that is too short, as an export gives it.
+pub const SHORT: u32 = ROOM_TOO_SHORT as u32;
 
 pub fn place(numbers: &[f64], out: &mut [f64])
     requires { ⌜ length (now numbers) ≤ length (now out) ⌝ }
@@ -23,26 +27,26 @@ pub fn place(numbers: &[f64], out: &mut [f64])
     }
 }
 
-// Gives 4 where they do not fit.
+// Refused where they do not fit.
 pub fn write(numbers: &[f64], out: &mut [f64]) -> u32
     ensures { λ r. ⌜ NumbersWritten (length (now (numbers .entry))) 0 (now (numbers .entry)) (now (out .entry)) r (now (out .exit)) ⌝ }
 {
     if out.len() < numbers.len() {
-        return 4;
+        return SHORT;
     }
     place(numbers, out);
     0
 }
 
-// The library's refusal where there is room for so many numbers, 4 in its place as 01's order has it.
+// The library's refusal where there is room for so many numbers; else the room's in its place, as 01's order has it.
 fn refuse(no: u32, need: usize, room: usize) -> u32
     ensures { λ r. ⌜ r ≡ withRoom no (short need room) ⌝ }
 {
-    if (0 < no) & (no < 4) {
+    if (0 < no) & (no < SHORT) {
         return no;
     }
     if room < need {
-        return 4;
+        return SHORT;
     }
     no
 }
