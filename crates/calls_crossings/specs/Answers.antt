@@ -1,4 +1,4 @@
--- 01, 'What a caller may conclude': "Each public call's contract determines the result and all numbers in the room afterwards, refusals too". What each call with a room is asked, by the
+-- 01, 'What a caller may conclude': "Each public call's contract determines the result and all numbers in the room afterwards, refusals too". What each call with a room answers, by the
 -- call's name. Definitions only. Assumes nothing.
 use Prim.Native.Nat.{ℕ}
 use mathlib.Core.Bool.{false}

@@ -18,7 +18,7 @@ pub record Crossed (n : ℕ) (hs : List CurveHit) (counts : List ℕ) (before : 
   pub answer : told ≡ answered n [] counts
   pub room : after ≡ cond (eqb n accepted) (written hs before) before
 
--- what a call is asked: its refusal by the lengths that are lent, the hits and the counts
+-- what a call answers: its refusal by the lengths that are lent, the hits and the counts
 pub record HitsAnswer : Type 0 where
   pub refusal : Lengths → ℕ
   pub hits : List CurveHit

@@ -2,15 +2,15 @@
 ghost use mathlib.Core.Path.{_≡_};
 ghost use Prim.Native.Nat.{_≤_, _/_};
 ghost use lib.ListN.{length};
-ghost use Rattle.hits.specs.Hit.{hitSize, written, hitPart};
+ghost use Rattle.hits.specs.Hit.{hitSize, hitPart};
 ghost use Rattle.hits.specs.Listed.{listed};
-ghost use Rattle.hits.specs.Outcome.{tally};
+ghost use Rattle.hits.specs.Outcome.{closed};
+ghost use Rattle.hits.specs.Holds.{Holds};
 ghost use Rattle.checks.specs.Refusal.{deepest};
 ghost use Rattle.checks.specs.Answer.{foundTold, huntedTold};
 ghost use Rattle.calls_crossings.specs.Crossed.{Crosses};
 ghost use Rattle.calls_crossings.specs.Answers.{segmentsAnswer, segmentArcAnswer, arcsAnswer};
 ghost use Rattle.calls_crossings.specs.Need.{pairHits};
-ghost use Rattle.hits.specs.Outcome.{closed};
 ghost use Rattle.calls_crossings.specs.Pairs.{pairOutcome};
 use checks::DEEPEST;
 use checks::Found;
@@ -68,7 +68,7 @@ pub fn intersect_segment_arc(p1: Point, p2: Point, a: Arc, room: &mut [f64]) -> 
 // The closed form's crossings, as a hunt's counts with nothing sampled.
 pub fn closed(c: Crossings, room: &mut [f64]) -> Tally
     requires { ⌜ length (listed c) ≤ length (now room) / hitSize ⌝ }
-    ensures { λ r. ⌜ (r ≡ tally (closed (listed c))) × (now (room .exit) ≡ written (listed c) (now (room .entry))) ⌝ }
+    ensures { λ r. ⌜ Holds (closed (listed c)) (now (room .entry)) r (now (room .exit)) ⌝ }
 {
     let n = hits::write(room, c);
     Tally {
@@ -97,7 +97,7 @@ pub fn pair_hits(a: Arc, b: Arc, depth: u32) -> usize
 // Two arcs whose numbers, depth and room are in order.
 pub fn pair(a: Arc, b: Arc, depth: u32, room: &mut [f64]) -> Tally
     requires { ⌜ (depth ≤ deepest) × (pairHits a b depth ≤ length (now room) / hitSize) ⌝ }
-    ensures { λ r. ⌜ (r ≡ tally (pairOutcome a b depth)) × (now (room .exit) ≡ written (pairOutcome a b depth .hits) (now (room .entry))) ⌝ }
+    ensures { λ r. ⌜ Holds (pairOutcome a b depth) (now (room .entry)) r (now (room .exit)) ⌝ }
 {
     if a.is_ellipse | b.is_ellipse {
         return hunt::hunt(a, b, depth, room);

@@ -3,8 +3,8 @@ ghost use mathlib.Core.Path.{_≡_};
 ghost use Prim.Native.Nat.{_≤_, _/_};
 ghost use lib.ListN.{length};
 ghost use Rattle.curves.specs.At.{at};
-ghost use Rattle.hits.specs.Hit.{hitSize, written};
-ghost use Rattle.hits.specs.Outcome.{tally};
+ghost use Rattle.hits.specs.Hit.{hitSize};
+ghost use Rattle.hits.specs.Holds.{Holds};
 ghost use Rattle.checks.specs.Refusal.{deepest};
 ghost use Rattle.checks.specs.Answer.{huntedTold};
 ghost use Rattle.calls_crossings.specs.Crossed.{Crosses};
@@ -42,7 +42,7 @@ fn curves_hits(a: Curve, b: Curve, depth: u32) -> usize
 // Two curves whose numbers, depth and room are in order.
 fn cross(a: Curve, b: Curve, depth: u32, room: &mut [f64]) -> Tally
     requires { ⌜ (depth ≤ deepest) × (curvesHits a b depth ≤ length (now room) / hitSize) ⌝ }
-    ensures { λ r. ⌜ (r ≡ tally (curvesOutcome a b depth)) × (now (room .exit) ≡ written (curvesOutcome a b depth .hits) (now (room .entry))) ⌝ }
+    ensures { λ r. ⌜ Holds (curvesOutcome a b depth) (now (room .entry)) r (now (room .exit)) ⌝ }
 {
     match a {
         Curve::Segment(x1, y1, x2, y2) => match b {

@@ -13,7 +13,7 @@ returns c =
     let cross = c .before .before in
     let test = cross .before .before in
     let none = sym (test .before .intersect-refusal .ensures) ∙ test .if1 .taken in
-    rw (cross .cross .ensures .0, cross .cross .ensures .1) (crossed-done _ _ _ _ _ none refl)
+    rw (cross .cross .ensures .counts, cross .cross .ensures .hits) (crossed-done _ _ _ _ _ none refl)
 
 returns-2 : tie.Need-returns-2
 returns-2 c = rw (← c .before .intersect-refusal .ensures) (crossed-refused _ _ _ _ (c .if1 .left))

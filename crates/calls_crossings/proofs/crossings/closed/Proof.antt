@@ -6,7 +6,7 @@ use Rattle.calls_crossings.proofs.crossings.closed.Tie as tie
 
 returns : tie.Need-returns
 returns c =
-    (rw (c .before .before .write .ensures .0) refl, c .before .before .write .ensures .1)
+    record { counts = rw (c .before .before .write .ensures .0) refl; hits = c .before .before .write .ensures .1 }
 
 pub closed-spec : {M : Type 1} → statement M
 closed-spec =

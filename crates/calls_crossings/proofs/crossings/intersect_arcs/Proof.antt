@@ -13,7 +13,7 @@ returns c =
     let pair = c .before .before in
     let test = pair .before .before in
     let none = sym (test .before .arcs-refusal .ensures) ∙ test .if1 .taken in
-    rw (pair .pair .ensures .0, pair .pair .ensures .1) (crossed-done _ _ _ _ _ none refl)
+    rw (pair .pair .ensures .counts, pair .pair .ensures .hits) (crossed-done _ _ _ _ _ none refl)
 
 returns-2 : tie.Need-returns-2
 returns-2 c = rw (← c .before .arcs-refusal .ensures) (crossed-refused _ _ _ _ (c .if1 .left))

@@ -20,7 +20,7 @@ returns c =
     let start = struct-known .before .before in
     let a = start .args in
     let is = pair-hunted (a .a) (a .b) (a .depth) (test .if1 .taken) in
-    rw is (hunt .hunt .ensures .counts, hunt .hunt .ensures .hits)
+    rw is (hunt .hunt .ensures)
 
 closed-requires : tie.Need-closed-requires
 closed-requires c κs =
