@@ -15,7 +15,7 @@ use Rattle.arctan.specs.Rule.{arctangent, ratio, edgeOf, edgeSize, angleOf, flo
 use Rattle.arctan_table.specs.Table.{table, coefsAt}
 use Rattle.arc.specs.Span.{normTau, within, arcParamInSpan}
 use Rattle.arc.specs.Frame.{arcRadii}
-use Rattle.hits.specs.Hit.{flat}
+use Rattle.rooms.specs.Laid.{flat}
 use Rattle.segments.specs.Segments.{intersectSegments, onSegment}
 use Rattle.crossing.specs.SegmentArc.{intersectSegmentArc, segmentHit, unitRoots}
 use Rattle.crossing.specs.Circles.{intersectCircleCircle, candidates, candidate, halfChord}

@@ -7,7 +7,8 @@ use Rattle.laws.specs.Literal.{zero}
 use Rattle.scalar.specs.Angles.{tau}
 use Rattle.curves.specs.declared.Point.{Point}
 use Rattle.curves.specs.declared.Arc.{Arc}
-use Rattle.hits.specs.Hit.{flat}
+use Rattle.rooms.specs.Laid.{flat}
+use Rattle.hits.specs.Hit as hit
 use Rattle.construct.specs.Circumscribed.{circumscribedArc}
 use Rattle.construct.specs.TangentCircle.{circleTangentThrough}
 use Rattle.checks.specs.Answer.{Answer}
@@ -49,6 +50,6 @@ told a = map (toBits binary64) (a .numbers) ++ a .counts
 -- what the definitions give, a query at depth 0
 unfoldable pub found : Call → List ℕ
 unfolding flat
-found (cross a b) = map (toBits binary64) (flat (curvesOutcome a b 0 .hits))
+found (cross a b) = map (toBits binary64) (flat hit.numbers (curvesOutcome a b 0 .hits))
 found (circleThrough s e t) = told (tangentCircleTold (circleTangentThrough s e t))
 found (arcThrough p1 p2 p3) = told (threePointTold (circumscribedArc p1 p2 p3))
