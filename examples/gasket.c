@@ -1,7 +1,7 @@
 /* The gasket pair: a flange of radius 1,000 and a bolt hole of radius 10 on its rim.
  *
- *     tools/native-lib arcs_c
- *     cc -Iinclude examples/gasket.c target/native/libarcs_c.a -lm
+ *     tools/native-lib
+ *     cc -Iinclude examples/gasket.c target/native/libarcs.a -lm
  */
 #include <inttypes.h>
 #include <stdio.h>

@@ -1,6 +1,6 @@
 /*
  * arcs.h: segments, circular arcs and arcs of ellipses, for C and for whatever speaks C's calling convention.
- * Link libarcs_c.a and the mathematics library (-larcs_c -lm).
+ * Link libarcs.a and the mathematics library (-larcs -lm).
  *
  * NUMBERS. Every call takes any numbers and demands nothing of its caller. A slice is a pointer and a length, the
  * length being how many numbers it has; the pointer is not null and is aligned, also where the length is 0. What a

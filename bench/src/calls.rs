@@ -135,7 +135,7 @@ fn answer(x: impl Numbers) -> Told {
 }
 
 fn result(r: Result<impl Numbers, Refusal>) -> Told {
-    r.map_or_else(|refusal| refused(refusal as u32), answer)
+    r.map_or_else(|refusal| refused(refusal.number()), answer)
 }
 
 fn or_refused(refusal: u32, r: Option<impl Numbers>) -> Told {
@@ -151,7 +151,7 @@ fn lending<const N: usize>(len: u64, call: impl FnOnce(&mut [f64]) -> Result<[u6
     let mut room = vec![f64::from_bits(LENT); len as usize];
     let (mut told, hits) = match call(&mut room) {
         Ok(counts) => (Told { numbers: counts.to_vec(), ..refused(0) }, 4 * counts[0] as usize),
-        Err(refusal) => (refused(refusal as u32), 0),
+        Err(refusal) => (refused(refusal.number()), 0),
     };
     told.numbers.extend(room[..hits].iter().map(|&x| bits(x)));
     told.kept = room[hits..].iter().all(|x| x.to_bits() == LENT);

@@ -1,3 +1,3 @@
 -- What is proved of the definitions in specs/.
 mod Places
-pub mod Rooms
+pub mod Written

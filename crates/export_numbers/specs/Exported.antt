@@ -10,10 +10,8 @@ use lib.ListN.{length}
 use lib.IntN.{pos}
 use lib.Ieee.{Float, binary64, ofInt}
 use Rattle.rooms.specs.Laid.{over}
-use Rattle.hits.specs.Hit.{hitSize, written}
 use Rattle.checks.specs.Refusal.{accepted, roomTooShort, orLater}
 use Rattle.checks.specs.Answer.{Answer}
-use Rattle.calls_crossings.specs.Crossed.{HitsAnswer, lengths}
 
 -- the refusal where a room for so many numbers has the length given
 abbrev pub short : ℕ → ℕ → ℕ
@@ -38,19 +36,3 @@ floats (n ∷ ns) = ofInt binary64 (pos n) ∷ floats ns
 -- what the library tells: the numbers, then the counts
 unfoldable pub NumbersOut : ℕ → Answer → List Float → ℕ → List Float → Type 0
 NumbersOut need told lent number lent' = NumbersWritten need (told .refusal) (told .numbers ++ floats (told .counts)) lent number lent'
-
--- ---- hits
-
--- a call with hits: what the library is asked; both rooms before; the number given back and both rooms after. The library's own refusals here are 1 to 4.
-pub record HitsOut (q : HitsAnswer) (room : List Float) (lent : List ℕ) (number : ℕ) (room' : List Float) (lent' : List ℕ) : Type 0 where
-  pub refusal : number ≡ orLater (q .refusal (lengths room)) (short (length (q .counts)) (length lent))
-  pub hits : room' ≡ cond (eqb number accepted) (written (q .hits) room) room
-  pub told : lent' ≡ cond (eqb number accepted) (over (q .counts) lent) lent
-
--- ---- one hit
-
--- "its four numbers come back as that part of the caller's own room": the part goes to one lent slice, how many numbers it has to another. 4 where a hit or the count would not fit.
-pub record HitOut (part : List Float) (out : List Float) (lent : List ℕ) (number : ℕ) (out' : List Float) (lent' : List ℕ) : Type 0 where
-  pub refusal : number ≡ orLater (short hitSize (length out)) (short 1 (length lent))
-  pub values : out' ≡ cond (eqb number accepted) (over part out) out
-  pub told : lent' ≡ cond (eqb number accepted) (over (length part ∷ []) lent) lent

@@ -3,21 +3,21 @@ use crate::asked;
 
 fn pair(call: u64, a: &[f64], marks: u32, t: f64, out: &mut [f64]) -> u32 {
     match call {
-        3 => arcs_c::arcs_arc_point_at(a, marks, t, out),
-        4 => arcs_c::arcs_arc_tangent_at(a, marks, t, out),
-        5 => arcs_c::arcs_arc_start_pos(a, marks, out),
-        6 => arcs_c::arcs_arc_end_pos(a, marks, out),
-        _ => arcs_c::arcs_arc_radii(a, marks, out),
+        3 => export_points::arcs_arc_point_at(a, marks, t, out),
+        4 => export_points::arcs_arc_tangent_at(a, marks, t, out),
+        5 => export_points::arcs_arc_start_pos(a, marks, out),
+        6 => export_points::arcs_arc_end_pos(a, marks, out),
+        _ => export_points::arcs_arc_radii(a, marks, out),
     }
 }
 
 // An angle, of one or of a position.
 fn angle(call: u64, a: &[f64], marks: u32, x: f64, y: f64, out: &mut [f64]) -> u32 {
     match call {
-        8 => arcs_c::arcs_arc_param_in_span(a, marks, x, out),
-        0xa => arcs_c::arcs_arc_theta_of_pos(a, marks, x, y, out),
-        0xb => arcs_c::arcs_arc_param_at_point(a, marks, x, y, out),
-        _ => arcs_c::arcs_nearest_arc_param(a, marks, x, y, out),
+        8 => export_points::arcs_arc_param_in_span(a, marks, x, out),
+        0xa => export_points::arcs_arc_theta_of_pos(a, marks, x, y, out),
+        0xb => export_points::arcs_arc_param_at_point(a, marks, x, y, out),
+        _ => export_shapes::arcs_nearest_arc_param(a, marks, x, y, out),
     }
 }
 
@@ -27,7 +27,7 @@ fn distance(words: &[u64; 128], out: &mut [f64]) -> u32 {
     let y = asked::number(words, 1);
     let a = asked::arc(words, 2);
     let marks = asked::whole(words, 9);
-    arcs_c::arcs_point_to_arc_dist(x, y, &a, marks, out)
+    export_shapes::arcs_point_to_arc_dist(x, y, &a, marks, out)
 }
 
 pub fn ask(words: &[u64; 128], out: &mut [f64]) -> u32 {

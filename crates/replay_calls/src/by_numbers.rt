@@ -4,33 +4,43 @@ use crate::asked::First;
 
 fn line(call: u64, x: First, out: &mut [f64]) -> u32 {
     match call {
-        0xc => arcs_c::arcs_point_to_segment_dist(x.a, x.b, x.c, x.d, x.e, x.f, out),
-        0xd => arcs_c::arcs_project_onto_segment(x.a, x.b, x.c, x.d, x.e, x.f, out),
-        _ => arcs_c::arcs_line_line_intersection(x.a, x.b, x.c, x.d, x.e, x.f, x.g, x.h, out),
+        0xc => export_points::arcs_point_to_segment_dist(x.a, x.b, x.c, x.d, x.e, x.f, out),
+        0xd => export_points::arcs_project_onto_segment(x.a, x.b, x.c, x.d, x.e, x.f, out),
+        _ => export_points::arcs_line_line_intersection(
+            x.a,
+            x.b,
+            x.c,
+            x.d,
+            x.e,
+            x.f,
+            x.g,
+            x.h,
+            out,
+        ),
     }
 }
 
 fn position(call: u64, x: First, out: &mut [f64]) -> u32 {
     match call {
-        1 => arcs_c::arcs_ellipse_point(x.a, x.b, x.c, x.d, x.e, x.f, out),
-        2 => arcs_c::arcs_ellipse_tangent(x.a, x.b, x.c, x.d, out),
-        7 => arcs_c::arcs_norm_tau(x.a, out),
+        1 => export_points::arcs_ellipse_point(x.a, x.b, x.c, x.d, x.e, x.f, out),
+        2 => export_points::arcs_ellipse_tangent(x.a, x.b, x.c, x.d, out),
+        7 => export_points::arcs_norm_tau(x.a, out),
         _ => line(call, x, out),
     }
 }
 
 fn through(call: u64, x: First, out: &mut [f64]) -> u32 {
     match call {
-        0x17 => arcs_c::arcs_circumscribed_arc(x.a, x.b, x.c, x.d, x.e, x.f, out),
-        0x18 => arcs_c::arcs_circle_tangent_through(x.a, x.b, x.c, x.d, x.e, x.f, out),
-        _ => arcs_c::arcs_fit_earc_tangent(x.a, x.b, x.c, x.d, x.e, x.f, x.g, x.h, x.i, out),
+        0x17 => export_shapes::arcs_circumscribed_arc(x.a, x.b, x.c, x.d, x.e, x.f, out),
+        0x18 => export_shapes::arcs_circle_tangent_through(x.a, x.b, x.c, x.d, x.e, x.f, out),
+        _ => export_shapes::arcs_fit_earc_tangent(x.a, x.b, x.c, x.d, x.e, x.f, x.g, x.h, x.i, out),
     }
 }
 
 fn converted(words: &[u64; 128], x: First, out: &mut [f64]) -> u32 {
     let large = asked::whole(words, 7);
     let sweep = asked::whole(words, 8);
-    arcs_c::arcs_svg_arc_to_center(x.a, x.b, x.c, x.d, x.e, x.f, x.g, large, sweep, out)
+    export_shapes::arcs_svg_arc_to_center(x.a, x.b, x.c, x.d, x.e, x.f, x.g, large, sweep, out)
 }
 
 pub fn ask(words: &[u64; 128], out: &mut [f64]) -> u32 {

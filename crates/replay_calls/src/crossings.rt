@@ -32,7 +32,7 @@ fn room_input(call: u64) -> usize
 fn closed(words: &[u64; 128], room: &mut [f64], counts: &mut [u64]) -> u32 {
     let x = asked::first_inputs(words);
     if words[0] == 0xf {
-        return arcs_c::arcs_intersect_segments(
+        return export_crossings::arcs_intersect_segments(
             x.a,
             x.b,
             x.c,
@@ -47,7 +47,7 @@ fn closed(words: &[u64; 128], room: &mut [f64], counts: &mut [u64]) -> u32 {
     }
     let a = asked::arc(words, 4);
     let marks = asked::whole(words, 11);
-    arcs_c::arcs_intersect_segment_arc(x.a, x.b, x.c, x.d, &a, marks, room, counts)
+    export_crossings::arcs_intersect_segment_arc(x.a, x.b, x.c, x.d, &a, marks, room, counts)
 }
 
 fn pair(words: &[u64; 128], room: &mut [f64], counts: &mut [u64]) -> u32 {
@@ -57,9 +57,9 @@ fn pair(words: &[u64; 128], room: &mut [f64], counts: &mut [u64]) -> u32 {
     let b_marks = asked::whole(words, 15);
     let depth = asked::whole(words, 16);
     if words[0] == 0x11 {
-        return arcs_c::arcs_intersect_arcs(&a, a_marks, &b, b_marks, depth, room, counts);
+        return export_crossings::arcs_intersect_arcs(&a, a_marks, &b, b_marks, depth, room, counts);
     }
-    arcs_c::arcs_intersect(&a, a_marks, &b, b_marks, depth, room, counts)
+    export_crossings::arcs_intersect(&a, a_marks, &b, b_marks, depth, room, counts)
 }
 
 fn crossed(words: &[u64; 128], room: &mut [f64], counts: &mut [u64]) -> u32 {
@@ -105,7 +105,7 @@ fn hit_answer(words: &[u64; 128], out: &mut [u64; 128]) -> Told {
     let mut counts = [0u64; 1];
     let room = asked::arc(words, 0);
     let lent = least(asked::size(words, 12), 12);
-    let refusal = arcs_c::arcs_hit(
+    let refusal = export_crossings::arcs_hit(
         &room[..lent],
         asked::size(words, 13),
         asked::size(words, 14),

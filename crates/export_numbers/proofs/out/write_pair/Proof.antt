@@ -1,7 +1,7 @@
 -- `export_numbers::out::write_pair` meets its contract. Assumes nothing.
 use mathlib.Core.Path.{ap}
 use Rattle.checks.specs.Answer.{pairTold}
-use Rattle.export_numbers.proofs.Rooms.{numbers-out, refused-out}
+use Rattle.export_numbers.proofs.Written.{numbers-out, refused-out}
 use borrow.Author.Needs.{needs}
 use Rattle.export_numbers.proofs.out.write_pair.Statement.{statement}
 use Rattle.export_numbers.proofs.out.write_pair.Tie as tie
