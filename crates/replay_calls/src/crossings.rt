@@ -1,16 +1,17 @@
 // Crossings, and a single hit: the calls f to 13. Their counts come first, then the numbers of the hits.
 ghost use mathlib.Core.Path.{_≡_};
-ghost use Prim.Native.Nat.{_≤_, _<_};
+ghost use Prim.Native.Nat.{_≤_, _<_, _*_};
 ghost use lib.ListN.{length};
+ghost use Rattle.hits.specs.Hit.{hitSize};
 use crate::asked;
 use crate::asked::Told;
 use crate::words;
+use hits::HIT;
 
-// How many numbers a hit has.
-const HIT: usize = 4;
-
-// How many hits the longest room has.
+// How many hits the longest room has, and how many numbers.
 const MOST: usize = 2048;
+
+const LONGEST: usize = MOST * HIT;
 
 fn least(a: usize, b: usize) -> usize
     ensures { λ r. ⌜ r ≤ b ⌝ }
@@ -84,14 +85,14 @@ fn in_room(words: &[u64; 128], room: &mut [f64], out: &mut [u64; 128]) -> Told {
     let hits = least(counts[0] as usize, MOST);
     words::put_words(&counts, head, out);
     words::put_numbers(room, hits * HIT, out, head);
-    asked::given(refusal, head + hits * HIT)
+    asked::told(refusal, head + hits * HIT)
 }
 
 // No pair needs more, so that a longer room changes nothing.
-fn blank_room() -> [f64; 8192]
-    ensures { λ r. ⌜ 8192 ≡ length r ⌝ }
+fn blank_room() -> [f64; LONGEST]
+    ensures { λ r. ⌜ 2048 * hitSize ≡ length r ⌝ }
 {
-    [asked::UNWRITTEN; 8192]
+    [asked::UNWRITTEN; LONGEST]
 }
 
 fn room_answer(words: &[u64; 128], out: &mut [u64; 128]) -> Told {
@@ -99,9 +100,9 @@ fn room_answer(words: &[u64; 128], out: &mut [u64; 128]) -> Told {
     in_room(words, &mut room, out)
 }
 
-// A hit is four numbers or none.
+// A hit has all its numbers or none.
 fn hit_answer(words: &[u64; 128], out: &mut [u64; 128]) -> Told {
-    let mut numbers = [asked::UNWRITTEN; 4];
+    let mut numbers = [asked::UNWRITTEN; HIT];
     let mut counts = [0u64; 1];
     let room = asked::arc(words, 0);
     let lent = least(asked::size(words, 12), 12);
@@ -113,7 +114,7 @@ fn hit_answer(words: &[u64; 128], out: &mut [u64; 128]) -> Told {
         &mut counts,
     );
     words::put_numbers(&numbers, HIT, out, 0);
-    asked::given(refusal, least(counts[0] as usize, HIT))
+    asked::told(refusal, least(counts[0] as usize, HIT))
 }
 
 pub fn answer(words: &[u64; 128], out: &mut [u64; 128]) -> Told {
