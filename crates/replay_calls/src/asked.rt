@@ -62,7 +62,7 @@ fn outputs(call: u64) -> usize {
 }
 
 // Where a call is refused nothing is told.
-pub fn told(refusal: u32, len: usize) -> Told {
+pub fn as_told(refusal: u32, len: usize) -> Told {
     if refusal == 0 {
         return Told {
             refusal: 0,
@@ -138,7 +138,7 @@ fn numbers_answer(words: &[u64; 128], out: &mut [u64; 128]) -> Told {
     let mut numbers = [UNWRITTEN; 8];
     let refusal = ask(words, &mut numbers);
     words::put_numbers(&numbers, 8, out, 0);
-    told(refusal, outputs(words[0]))
+    as_told(refusal, outputs(words[0]))
 }
 
 // The answer's words go to `out`.

@@ -85,7 +85,7 @@ fn in_room(words: &[u64; 128], room: &mut [f64], out: &mut [u64; 128]) -> Told {
     let hits = least(counts[0] as usize, MOST);
     words::put_words(&counts, head, out);
     words::put_numbers(room, hits * HIT, out, head);
-    asked::told(refusal, head + hits * HIT)
+    asked::as_told(refusal, head + hits * HIT)
 }
 
 // No pair needs more, so that a longer room changes nothing.
@@ -114,7 +114,7 @@ fn hit_answer(words: &[u64; 128], out: &mut [u64; 128]) -> Told {
         &mut counts,
     );
     words::put_numbers(&numbers, HIT, out, 0);
-    asked::told(refusal, least(counts[0] as usize, HIT))
+    asked::as_told(refusal, least(counts[0] as usize, HIT))
 }
 
 pub fn answer(words: &[u64; 128], out: &mut [u64; 128]) -> Told {
