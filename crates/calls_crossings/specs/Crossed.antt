@@ -5,11 +5,11 @@ use mathlib.Core.Path.{_≡_}
 use mathlib.Core.Bool.{cond}
 use mathlib.Core.List.{List, []}
 use lib.Dec.{eqb}
-use lib.ListN.{length}
 use lib.Ieee.{Float}
 use Rattle.hits.specs.declared.CurveHit.{CurveHit}
 use Rattle.hits.specs.declared.Lengths.{Lengths}
 use Rattle.hits.specs.Hit.{written}
+use Rattle.hits.specs.Need.{lengths}
 use Rattle.checks.specs.Refusal.{accepted}
 use Rattle.checks.specs.Answer.{Answer, answered}
 
@@ -23,9 +23,6 @@ pub record HitsAnswer : Type 0 where
   pub refusal : Lengths → ℕ
   pub hits : List CurveHit
   pub counts : List ℕ
-
-abbrev pub lengths : List Float → Lengths
-lengths room = record { room = length room }
 
 abbrev pub Crosses : HitsAnswer → List Float → Answer → List Float → Type 0
 Crosses q before told after = Crossed (q .refusal (lengths before)) (q .hits) (q .counts) before told after

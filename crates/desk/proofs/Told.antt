@@ -23,7 +23,8 @@ use Rattle.checks.specs.Answer.{Answer, answered, huntedTold, tallyCounts}
 use Rattle.checks.proofs.Tested.{unrefused, not-deep, refusal-room}
 use Rattle.checks.proofs.Outcomes.{hunted-told-unique}
 use Rattle.curves.specs.declared.Curve.{Curve}
-use Rattle.calls_crossings.specs.Crossed.{Crossed, lengths}
+use Rattle.hits.specs.Need.{lengths}
+use Rattle.calls_crossings.specs.Crossed.{Crossed}
 use Rattle.checks.specs.Given.{curveNumbers}
 use Rattle.calls_curves.specs.Curves.{curvesHits, curvesOutcome}
 use Rattle.desk.specs.Refused.{pairRefusal}

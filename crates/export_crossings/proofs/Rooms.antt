@@ -12,7 +12,8 @@ use Rattle.rooms.specs.Laid.{over}
 use Rattle.hits.specs.Hit.{hitSize, hitPart}
 use Rattle.checks.specs.Answer.{Answer, answered}
 use Rattle.checks.specs.Refusal.{accepted, roomTooShort, orLater}
-use Rattle.calls_crossings.specs.Crossed.{HitsAnswer, lengths, Crosses}
+use Rattle.hits.specs.Need.{lengths}
+use Rattle.calls_crossings.specs.Crossed.{HitsAnswer, Crosses}
 use Rattle.export_crossings.specs.Exported.{HitsOut, HitOut}
 
 -- ---- hits, where the counts fit
@@ -25,12 +26,12 @@ module _ (q : HitsAnswer) {room after : List Float} {told : Answer} {lent lent' 
       go true i = record {
         refusal = rw (c .answer, i, le-ltb _ _ fit) refl;
         hits = rw (c .room, c .answer, i) refl;
-        told = rw (e, c .answer, i) refl;
+        counts = rw (e, c .answer, i) refl;
       }
       go false i = record {
         refusal = rw (c .answer, i) refl;
         hits = rw (c .room, c .answer, i, i) refl;
-        told = rw (e, c .answer, i, i) refl;
+        counts = rw (e, c .answer, i, i) refl;
       }
 
 -- ---- hits, where the counts do not fit: the call's own refusal, and the room's where it has none
@@ -47,7 +48,7 @@ module _ (q : HitsAnswer) {room : List Float} {lent : List ℕ} {number : ℕ} w
   hits-short is short = record {
     refusal = rw (lt-ltb _ _ short) is;
     hits = rw (is, later-short (q .refusal (lengths room))) refl;
-    told = rw (is, later-short (q .refusal (lengths room))) refl;
+    counts = rw (is, later-short (q .refusal (lengths room))) refl;
   }
 
 -- ---- one hit
@@ -66,11 +67,11 @@ module _ {q : HitsAnswer} {room : List Float} {lent : List ℕ} where
       → (number ≡ number') × (after ≡ after') × (told ≡ told')
   hits-out-unique number number' after after' told told' p q =
       let same : number ≡ number' = p .refusal ∙ sym (q .refusal) in
-      (same, p .hits ∙ sym (rw same (q .hits)), p .told ∙ sym (rw same (q .told)))
+      (same, p .hits ∙ sym (rw same (q .hits)), p .counts ∙ sym (rw same (q .counts)))
 
 module _ {part out : List Float} {lent : List ℕ} where
   pub hit-out-unique : (number number' : ℕ) (after after' : List Float) (told told' : List ℕ) → HitOut part out lent number after told → HitOut part out lent number' after' told'
       → (number ≡ number') × (after ≡ after') × (told ≡ told')
   hit-out-unique number number' after after' told told' p q =
       let same : number ≡ number' = p .refusal ∙ sym (q .refusal) in
-      (same, p .values ∙ sym (rw same (q .values)), p .told ∙ sym (rw same (q .told)))
+      (same, p .values ∙ sym (rw same (q .values)), p .counts ∙ sym (rw same (q .counts)))

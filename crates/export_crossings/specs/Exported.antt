@@ -11,16 +11,17 @@ use lib.Ieee.{Float}
 use Rattle.rooms.specs.Laid.{over}
 use Rattle.hits.specs.Hit.{hitSize, written}
 use Rattle.checks.specs.Refusal.{accepted, orLater}
-use Rattle.calls_crossings.specs.Crossed.{HitsAnswer, lengths}
+use Rattle.hits.specs.Need.{lengths}
+use Rattle.calls_crossings.specs.Crossed.{HitsAnswer}
 use Rattle.export_numbers.specs.Exported.{short}
 
 -- ---- hits
 
--- a call with hits: what the library is asked; both rooms before; the number given back and both rooms after. The library's own refusals here are 1 to 4.
+-- a call with hits: what the library answers; both rooms before; the number given back and both rooms after. The library's own refusals here are 1 to 4.
 pub record HitsOut (q : HitsAnswer) (room : List Float) (lent : List ℕ) (number : ℕ) (room' : List Float) (lent' : List ℕ) : Type 0 where
   pub refusal : number ≡ orLater (q .refusal (lengths room)) (short (length (q .counts)) (length lent))
   pub hits : room' ≡ cond (eqb number accepted) (written (q .hits) room) room
-  pub told : lent' ≡ cond (eqb number accepted) (over (q .counts) lent) lent
+  pub counts : lent' ≡ cond (eqb number accepted) (over (q .counts) lent) lent
 
 -- ---- one hit
 
@@ -28,4 +29,4 @@ pub record HitsOut (q : HitsAnswer) (room : List Float) (lent : List ℕ) (numbe
 pub record HitOut (part : List Float) (out : List Float) (lent : List ℕ) (number : ℕ) (out' : List Float) (lent' : List ℕ) : Type 0 where
   pub refusal : number ≡ orLater (short hitSize (length out)) (short 1 (length lent))
   pub values : out' ≡ cond (eqb number accepted) (over part out) out
-  pub told : lent' ≡ cond (eqb number accepted) (over (length part ∷ []) lent) lent
+  pub counts : lent' ≡ cond (eqb number accepted) (over (length part ∷ []) lent) lent

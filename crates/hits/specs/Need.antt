@@ -3,13 +3,20 @@
 -- Assumes nothing.
 use Prim.Native.Nat.{ℕ, _*_}
 use mathlib.Core.Bool.{Bool}
+use mathlib.Core.List.{List}
 use lib.Dec.{ltb}
+use lib.ListN.{length}
+use lib.Ieee.{Float}
 use Rattle.hits.specs.declared.Lengths.{Lengths}
 use Rattle.hits.specs.Hit.{hitSize}
 
 -- the numbers that so many hits take
 abbrev pub need : ℕ → ℕ
 need hits = hitSize * hits
+
+-- how long what is lent is
+abbrev pub lengths : List Float → Lengths
+lengths room = record { room = length room }
 
 -- whether what is lent is too short for so many hits
 unfoldable pub short : ℕ → Lengths → Bool

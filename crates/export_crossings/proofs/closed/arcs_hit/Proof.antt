@@ -10,10 +10,10 @@ use Rattle.export_crossings.proofs.closed.arcs_hit.Statement.{statement
 use Rattle.export_crossings.proofs.closed.arcs_hit.Tie as tie
 
 returns : tie.Need-returns
-returns c = record { refusal = rw (lt-ltb _ _ (c .if1 .taken)) refl; values = refl; told = refl }
+returns c = record { refusal = rw (lt-ltb _ _ (c .if1 .taken)) refl; values = refl; counts = refl }
 
 returns-2 : tie.Need-returns-2
-returns-2 c = record { refusal = rw (le-ltb _ _ (c .before .if1 .left), lt-ltb _ _ (c .if2 .taken)) refl; values = refl; told = refl }
+returns-2 c = record { refusal = rw (le-ltb _ _ (c .before .if1 .left), lt-ltb _ _ (c .if2 .taken)) refl; values = refl; counts = refl }
 
 place-requires : tie.Need-place-requires
 place-requires c κs =
@@ -35,7 +35,7 @@ returns-3 c =
     record {
       refusal = rw (le-ltb _ _ (test .if1 .left), le-ltb _ _ (test2 .if2 .left)) refl;
       values = rw (← part) (place .place .ensures);
-      told = rw (← part) (stored-over (_ ∷ []) (start .args .counts .now) (test2 .if2 .left));
+      counts = rw (← part) (stored-over (_ ∷ []) (start .args .counts .now) (test2 .if2 .left));
     }
 
 pub arcs-hit-spec : {M : Type 1} → statement M
