@@ -1,14 +1,14 @@
 -- 01, 'Checked drawings': "Drawings with * are theorems of the definitions, held as one table." A drawing has a call and the numbers that it gives. Definitions only. Assumes nothing.
 use Prim.Native.Nat.{ℕ}
 use mathlib.Core.Bool.{true, false}
-use mathlib.Core.List.{List, map, _++_}
+use mathlib.Core.List.{List, [], _∷_, map, _++_}
 use lib.Ieee.{Float, binary64, toBits}
 use Rattle.laws.specs.Literal.{zero}
 use Rattle.scalar.specs.Angles.{tau}
 use Rattle.curves.specs.declared.Point.{Point}
 use Rattle.curves.specs.declared.Arc.{Arc}
 use Rattle.rooms.specs.Laid.{flat}
-use Rattle.hits.specs.Hit as hit
+use Rattle.hits.specs.declared.CurveHit.{CurveHit}
 use Rattle.construct.specs.Circumscribed.{circumscribedArc}
 use Rattle.construct.specs.TangentCircle.{circleTangentThrough}
 use Rattle.checks.specs.Answer.{Answer}
@@ -26,9 +26,6 @@ pub record Drawing : Type 0 where
   pub call : Call
   pub gives : List ℕ
 
-abbrev pub at : Float → Float → Point
-at x y = record { x = x; y = y }
-
 -- "Rotation 0, closed circles start at 0."
 abbrev pub circle : Float → Float → Float → Curve
 circle x y r =
@@ -44,12 +41,16 @@ circle x y r =
       «is_ellipse» = false;
     })
 
+-- what a drawing says of a hit
+abbrev pub seen : CurveHit → List Float
+seen h = h .«t_a» ∷ h .«t_b» ∷ h .pos .x ∷ h .pos .y ∷ []
+
 abbrev pub told : Answer → List ℕ
 told a = map (toBits binary64) (a .numbers) ++ a .counts
 
 -- what the definitions give, a query at depth 0
 unfoldable pub found : Call → List ℕ
 unfolding flat
-found (cross a b) = map (toBits binary64) (flat hit.numbers (curvesOutcome a b 0 .hits))
+found (cross a b) = map (toBits binary64) (flat seen (curvesOutcome a b 0 .hits))
 found (circleThrough s e t) = told (tangentCircleTold (circleTangentThrough s e t))
 found (arcThrough p1 p2 p3) = told (threePointTold (circumscribedArc p1 p2 p3))

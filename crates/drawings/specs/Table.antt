@@ -2,8 +2,9 @@
 use mathlib.Core.List.{List, [], _∷_}
 use lib.Ieee.{Float, binary64, ofBits, neg}
 use Rattle.laws.specs.Literal.{zero, one, two, three}
+use Rattle.curves.specs.At.{at}
 use Rattle.curves.specs.declared.Curve.the-variants.{Segment}
-use Rattle.drawings.specs.Drawing.{Drawing, cross, circleThrough, arcThrough, at, circle}
+use Rattle.drawings.specs.Drawing.{Drawing, cross, circleThrough, arcThrough, circle}
 
 -- 1.5, 5 and 6
 abbrev pub one½ : Float

@@ -17,7 +17,7 @@ fn number_word(numbers: &[f64], i: usize) -> u64 {
 
 // Words past the end of `out` are dropped: no row has them.
 pub fn put_numbers(numbers: &[f64], n: usize, out: &mut [u64; 128], at: usize)
-    requires { ⌜ (n ≤ 8192) × (at ≤ 6) ⌝ }
+    requires { ⌜ (n ≤ 65536) × (at ≤ 6) ⌝ }
 {
     for i in 0..n {
         put(out, at + i, number_word(numbers, i));
