@@ -1,4 +1,4 @@
-//! Writes the rows that the program `replay` is run on, to standard output: see crates/replay_routines/src/main.rt for their form.
+//! Writes the rows that the program `replay_routines` is run on, to standard output: see crates/replay_routines/src/main.rt for their form.
 //! `bench/run answers > crates/replay_routines/stdin`. The answers are the machine's root and Rust's own methods. Where Rust leaves
 //! the answer open or panics, document 01's sentence gives it, as said at each. For the angles they are the values of docs/TRIG.md.
 use bench::{bits, Random, NAN};

@@ -1,4 +1,4 @@
-//! Writes the rows that the program `held` is run on: inputs of all public calls, and the oracle's answers.
+//! Writes the rows that the program `replay_calls` is run on: inputs of all public calls, and the oracle's answers.
 //! `bench/run samples 1 > crates/replay_calls/stdin`; 1 is the seed of the inputs.
 //!
 //! One call a line, fields parted by one tab. Every field is a whole number in lower-case hex digits:

@@ -1,5 +1,5 @@
 // Reads records and queries from standard input, one a line, and prints the answers. What a line says and what is printed are
-// the libraries', `lines` and `desk`. Here are the bytes, which come in pieces of any size.
+// the libraries', `desk_line` and `desk`. Here are the bytes, which come in pieces of any size.
 ghost use Prim.Native.Nat.{_≤_};
 ghost use lib.ListN.{length};
 use desk::OUT_NEED;

@@ -40,7 +40,7 @@ numbers-written-unique number number' after after' p q =
     let same : number ≡ number' = p .refusal ∙ sym (q .refusal) in
     (same, p .values ∙ sym (rw same (q .values)))
 
-pub numbers-out-unique : (need : ℕ) (told : Answer) (lent : List Float) (number number' : ℕ) (after after' : List Float) → NumbersOut need told lent number after → NumbersOut need told lent number' after'
-    → (number ≡ number') × (after ≡ after')
+pub numbers-out-unique : (need : ℕ) (told : Answer) (lent : List Float) (number number' : ℕ) (after after' : List Float)
+    → NumbersOut need told lent number after → NumbersOut need told lent number' after' → (number ≡ number') × (after ≡ after')
 unfolding NumbersOut
 numbers-out-unique need told lent number number' after after' p q = numbers-written-unique number number' after after' p q

@@ -1,4 +1,4 @@
--- `earc_fit::axes::determinant` meets its contract. Assumes nothing.
+-- `conics::axes::determinant` meets its contract. Assumes nothing.
 use mathlib.Core.Path.{refl}
 use Rattle.conics.specs.Axes.{determinant}
 use Rattle.conics.proofs.axes.determinant.Statement.{statement}

@@ -1,4 +1,4 @@
--- `earc_fit::axes::rotation` meets its contract. Assumes nothing.
+-- `conics::axes::rotation` meets its contract. Assumes nothing.
 use Rattle.conics.specs.Axes.{rotation}
 use borrow.Author.Needs.{needs}
 use Rattle.conics.proofs.axes.rotation.Statement.{statement}

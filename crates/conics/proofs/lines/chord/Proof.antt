@@ -1,4 +1,4 @@
--- `earc_fit::lines::chord` meets its contract. Assumes nothing.
+-- `conics::lines::chord` meets its contract. Assumes nothing.
 use mathlib.Core.Path.{refl}
 use Rattle.conics.specs.Lines.{chord}
 use Rattle.conics.proofs.lines.chord.Statement.{statement}

@@ -1,4 +1,4 @@
--- `earc_fit::lines::normalized` meets its contract. Assumes nothing.
+-- `conics::lines::normalized` meets its contract. Assumes nothing.
 use mathlib.Core.Path.{refl}
 use Rattle.conics.specs.Lines.{normalized}
 use borrow.Author.Needs.{needs}

@@ -1,4 +1,4 @@
--- `settling::fate` takes the point, its angle on b, and both spans. Assumes nothing.
+-- `fates::fate` takes the point, its angle on b, and both spans. Assumes nothing.
 use mathlib.Core.Path.{_∙_}
 use Rattle.hunt_bracket.specs.Fate.{fate}
 use borrow.Author.Needs.{needs}
