@@ -7,7 +7,7 @@ use native.Mathlib.Numerals.{add-one}
 use native.Mathlib.Omega.{arith}
 use lib.ListN.{length, getD, take, drop, set, length-append, length-drop, length-set, take-append-drop, drop-of-length-le, List·getD-append}
 use lib.Seq.{drop-drop, drop-cons, take-append-seam, drop-append-seam, drop-append-add, getD-append-add, append-snoc, length-take-le, lt-length-set, take-suc, take-set-le, getD-set-same, drop-set-lt}
-use Rattle.rooms.specs.Laid.{over, placed, stored, flat, laid}
+use Rattle.rooms.specs.Laid.{over, placed, flat, laid}
 
 -- ---- values
 
@@ -25,7 +25,12 @@ module _ {B : Type 0} where
   placed-over xs ys lent =
       rw (take-append-seam xs (drop (length xs) lent), drop-append-add xs (drop (length xs) lent) (length ys), drop-drop (length ys) (length xs) lent, length-append xs ys) refl
 
-  -- one store after the other is the values at their place, where they fit
+  -- one store after the other, from a place on, as code writes values
+  abbrev pub stored : List B → ℕ → List B → List B
+  stored [] i lent = lent
+  stored (x ∷ values) i lent = stored values (i + 1) (set lent i x)
+
+  -- where they fit these are the values at their place
   pub stored-placed : (values : List B) (i : ℕ) (lent : List B) → i + length values ≤ length lent → stored values i lent ≡ placed values i lent
   stored-placed [] i lent fit = rw (append-nil (take i lent), add-zero i) (sym (take-append-drop i lent))
   stored-placed (x ∷ values) i lent fit =

@@ -2,7 +2,7 @@
 -- A record has any number of values, and a value is a number, a byte or anything else. Definitions only. Assumes nothing.
 use Prim.Native.Nat.{ℕ, _+_}
 use mathlib.Core.List.{List, [], _∷_, _++_}
-use lib.ListN.{length, take, drop, set}
+use lib.ListN.{length, take, drop}
 
 module _ {B : Type 0} where
   -- the values at the start of the room
@@ -12,11 +12,6 @@ module _ {B : Type 0} where
   -- the values from a place on
   abbrev pub placed : List B → ℕ → List B → List B
   placed values i lent = take i lent ++ values ++ drop (i + length values) lent
-
-  -- one store after the other, from a place on; where they fit it is `placed` (`stored-placed` in proofs/Laws.antt)
-  abbrev pub stored : List B → ℕ → List B → List B
-  stored [] i lent = lent
-  stored (x ∷ values) i lent = stored values (i + 1) (set lent i x)
 
 -- ---- records, each as its values
 

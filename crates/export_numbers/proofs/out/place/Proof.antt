@@ -3,8 +3,7 @@ use mathlib.Core.Path.{_≡_, refl, sym, _∙_}
 use Prim.Native.Nat.{_≤_, _-_}
 use native.Mathlib.Omega.{arith}
 use lib.ListN.{length, drop, length-set}
-use Rattle.rooms.specs.Laid.{stored}
-use Rattle.rooms.proofs.Laws.{stored-next, stored-done, stored-over}
+use Rattle.rooms.proofs.Laws.{stored, stored-next, stored-done, stored-over}
 use borrow.Author.Needs.{needs}
 use Rattle.export_numbers.proofs.out.place.Statement.{statement}
 use Rattle.export_numbers.proofs.out.place.Tie as tie
