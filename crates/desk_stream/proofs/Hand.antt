@@ -1,0 +1,125 @@
+-- The line at hand in its buffer: one byte more, and the bytes of a piece up to a newline. Assumes nothing.
+use mathlib.Core.Path.{_≡_, refl, sym, ap, _∙_}
+use mathlib.Core.List.{List, [], _∷_, _++_, append-nil}
+use Prim.Native.Nat.{ℕ, suc, _+_, _-_, _≤_, _<_, min}
+use native.Mathlib.Numerals.{add-one}
+use native.Mathlib.Decide.{decLe}
+use native.Mathlib.Omega.{arith}
+use borrow.Author.Tests.{eq-eqb, ne-eqb}
+use lib.Dec.{eqb}
+use lib.ListN.{length, getD, take, drop, set, length-append, length-take, length-drop, take-append-drop, drop-of-length-le}
+use lib.Seq.{take-all, take-length, drop-length, length-take-le, take-append-seam, take-append-le, append-snoc, drop-cons, drop-drop, drop-append-add, set-split}
+use Rattle.rooms.specs.Laid.{over}
+use Rattle.rooms.proofs.Laws.{over-length}
+use Rattle.desk_stream.specs.declared.Taken.{Taken}
+use Rattle.desk_stream.specs.Lines.{newline}
+use Rattle.desk_stream.specs.Reading.{most, kept}
+use Rattle.desk_stream.specs.Step.{before, handOf, Holds, Takes}
+use Rattle.desk_stream.proofs.Kept.{kept-append, kept-whole}
+
+-- ---- one byte more
+
+module _ (line : List ℕ) (n b : ℕ) (full : length line ≡ most) where
+  pub byte-past : most ≤ n → Holds (kept (take n line ++ b ∷ [])) line most line
+  byte-past h =
+      let all : take n line ≡ line = take-all n line (omega arith) in
+      let same : kept (take n line ++ b ∷ []) ≡ line = rw all (take-append-le most line (b ∷ []) (omega arith) ∙ take-all most line (omega arith)) in
+      rw same (record { count = sym full; buffer = sym (rw (drop-length line) (append-nil line)) })
+
+  pub byte-kept : n < most → Holds (kept (take n line ++ b ∷ [])) line (n + 1) (set line n b)
+  byte-kept h =
+      let front = length-take-le n line (omega arith) in
+      let long : length (take n line ++ b ∷ []) ≡ n + 1 = length-append (take n line) (b ∷ []) ∙ rw front refl in
+      let same : kept (take n line ++ b ∷ []) ≡ take n line ++ b ∷ [] = kept-whole (take n line ++ b ∷ []) (omega arith) in
+      rw same
+      (record {
+        count = sym long;
+        buffer = set-split line n b (omega arith) ∙ sym (append-snoc (take n line) b (drop (suc n) line)) ∙ ap (λ (m : ℕ). (take n line ++ b ∷ []) ++ drop m line) (sym (long ∙ add-one n));
+      })
+
+-- ---- the bytes of a piece
+
+module _ (piece : List ℕ) (at : ℕ) where
+  pub before-end : length piece ≤ at → before (drop at piece) ≡ []
+  unfolding before
+  before-end h = rw (drop-of-length-le piece h) refl
+
+  pub before-newline : at < length piece → getD piece at 0 ≡ newline → before (drop at piece) ≡ []
+  unfolding before
+  before-newline h e = rw (drop-cons piece at 0 h, eq-eqb (getD piece at 0) newline e) refl
+
+  pub before-more : at < length piece → (getD piece at 0 ≡ newline → ⊥) → before (drop at piece) ≡ getD piece at 0 ∷ before (drop (at + 1) piece)
+  unfolding before
+  before-more h e = rw (drop-cons piece at 0 h, ne-eqb (getD piece at 0) newline e, add-one at) refl
+
+-- the buffer is written over from the start, further each time
+over-over : (xs ys lent : List ℕ) → length xs ≤ length ys → over ys (over xs lent) ≡ over ys lent
+over-over xs ys lent h =
+    ap (λ (l : List ℕ). ys ++ l)
+    (ap (λ (m : ℕ). drop m (over xs lent)) (sym up) ∙ drop-append-add xs (drop (length xs) lent) (length ys - length xs) ∙ drop-drop (length ys - length xs) (length xs) lent ∙
+    ap (λ (m : ℕ). drop m lent) up)
+  where
+    up : length xs + (length ys - length xs) ≡ length ys
+    up = omega arith
+
+-- no more of the buffer is asked for than it has
+pub take-least : (n₀ n : ℕ) (line : List ℕ) → length line ≡ most → n ≡ min n₀ most → take n line ≡ take n₀ line
+take-least n₀ n line full e = elim (decLe n₀ most) [
+  | yes few ↦ let same : n ≡ n₀ = omega arith in ap (λ (m : ℕ). take m line) same
+  | no many ↦ take-all n line (omega arith) ∙ sym (take-all n₀ line (omega arith))
+]
+
+-- what holds as the piece is read: at the place `at` n bytes are kept in the buffer, and the hand comes out the same
+pub record Going (n₀ : ℕ) (piece : List ℕ) (from : ℕ) (line₀ : List ℕ) (n at : ℕ) (line : List ℕ) : Type 0 where
+  pub full : length line ≡ most
+  pub few : n ≤ most
+  pub hand : handOf n line (drop at piece) ≡ handOf n₀ line₀ (drop from piece)
+  pub read : at + length (before (drop at piece)) ≡ from + length (before (drop from piece))
+  pub buffer : line ≡ over (take n line) line₀
+
+module _ (n₀ : ℕ) (piece : List ℕ) (from : ℕ) (line₀ : List ℕ) where
+  pub going-start : (n : ℕ) → length line₀ ≡ most → n ≡ min n₀ most → Going n₀ piece from line₀ n from line₀
+  going-start n full e =
+      record {
+        full = full;
+        few = omega arith;
+        hand = ap (λ (l : List ℕ). kept (l ++ before (drop from piece))) (take-least n₀ n line₀ full e);
+        read = refl;
+        buffer = sym (rw (length-take-le n line₀ (omega arith)) (take-append-drop n line₀));
+      }
+
+  module _ (n at : ℕ) (line : List ℕ) (g : Going n₀ piece from line₀ n at line) where
+    pub going-more : at < length piece → (getD piece at 0 ≡ newline → ⊥) → (n' : ℕ) (line' : List ℕ)
+        → Holds (kept (take n line ++ getD piece at 0 ∷ [])) line n' line' → Going n₀ piece from line₀ n' (at + 1) line'
+    going-more h e n' line' holds =
+        let b = getD piece at 0 in
+        let rest = before (drop (at + 1) piece) in
+        let more = before-more piece at h e in
+        let longer = kept (take n line ++ b ∷ []) in
+        let front : take n' line' ≡ longer = rw (holds .buffer, holds .count) (take-append-seam longer (drop (length longer) line)) in
+        let wider : length (take n line) ≤ length longer = omega (arith, length-take n line, length-take most (take n line ++ b ∷ []), length-append (take n line) (b ∷ []), g .few) in
+        let fit : length longer ≤ length line = omega (arith, length-take most (take n line ++ b ∷ []), g .full) in
+        record {
+          full = ap length (holds .buffer) ∙ over-length longer line fit ∙ g .full;
+          few = omega (arith, holds .count, length-take most (take n line ++ b ∷ []));
+          hand =
+            ap (λ (l : List ℕ). kept (l ++ rest)) front ∙ kept-append (take n line ++ b ∷ []) rest ∙ ap kept (append-snoc (take n line) b rest) ∙
+            ap (λ (l : List ℕ). kept (take n line ++ l)) (sym more) ∙ g .hand;
+          read = next at (length rest) ∙ ap (λ (l : List ℕ). at + length l) (sym more) ∙ g .read;
+          buffer = holds .buffer ∙ ap (over longer) (g .buffer) ∙ over-over (take n line) longer line₀ wider ∙ ap (λ (l : List ℕ). over l line₀) (sym front);
+        }
+      where
+        next : (at k : ℕ) → at + 1 + k ≡ at + suc k
+        next at k = omega arith
+
+    pub going-done : before (drop at piece) ≡ [] → Takes n₀ piece from line₀ (record { read = at; kept = n }) line
+    going-done e =
+        let same : take n line ≡ handOf n₀ line₀ (drop from piece) =
+        sym (kept-whole (take n line) (omega (arith, length-take n line, g .few))) ∙ ap kept (sym (append-nil (take n line))) ∙ ap (λ (l : List ℕ). kept (take n line ++ l)) (sym e) ∙ g .hand in
+        record {
+          read = sym (ap (λ (l : List ℕ). at + length l) e ∙ none at) ∙ g .read;
+          hand = rw (← same) (record { count = sym (length-take-le n line (omega (arith, g .few, g .full))); buffer = g .buffer });
+        }
+      where
+        none : (at : ℕ) → at + 0 ≡ at
+        none at = omega arith

@@ -1,0 +1,5 @@
+-- What is proved of the definitions in specs/.
+pub mod Kept
+pub mod Fed
+pub mod Hand
+pub mod Steps
