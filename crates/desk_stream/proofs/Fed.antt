@@ -5,8 +5,8 @@ use mathlib.Core.List.{List, [], _∷_, _++_, append-assoc, append-nil}
 use Prim.Native.Nat.{ℕ, _+_, _≤_, _<_}
 use native.Mathlib.Omega.{arith}
 use borrow.Author.Tests.{lt-ltb, le-ltb}
-use lib.Dec.{eqb, ltb}
-use lib.ListN.{length, length-append, length-take}
+use lib.Dec.{eqb}
+use lib.ListN.{length, length-take}
 use lib.Seq.{append-snoc}
 use Rattle.desk_line.specs.declared.Line.{Line}
 use Rattle.desk_line.specs.Read.{readLine}
@@ -20,7 +20,7 @@ use Rattle.desk_stream.proofs.Kept.{kept-append, kept-whole, read-kept}
 
 -- ---- bytes in two parts
 
-abbrev then : Fed → Fed → Fed
+abbrev pub then : Fed → Fed → Fed
 then x y = record { printed = x .printed ++ y .printed; reading = y .reading }
 
 pub fed-append : (q : Reading) (xs ys : List ℕ) → fed q (xs ++ ys) ≡ then (fed q xs) (fed (fed q xs .reading) ys)

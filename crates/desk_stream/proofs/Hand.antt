@@ -6,12 +6,10 @@ use native.Mathlib.Numerals.{add-one}
 use native.Mathlib.Decide.{decLe}
 use native.Mathlib.Omega.{arith}
 use borrow.Author.Tests.{eq-eqb, ne-eqb}
-use lib.Dec.{eqb}
-use lib.ListN.{length, getD, take, drop, set, length-append, length-take, length-drop, take-append-drop, drop-of-length-le}
-use lib.Seq.{take-all, take-length, drop-length, length-take-le, take-append-seam, take-append-le, append-snoc, drop-cons, drop-drop, drop-append-add, set-split}
+use lib.ListN.{length, getD, take, drop, set, length-append, length-take, take-append-drop, drop-of-length-le}
+use lib.Seq.{take-all, drop-length, length-take-le, take-append-seam, take-append-le, append-snoc, drop-cons, drop-drop, drop-append-add, set-split}
 use Rattle.rooms.specs.Laid.{over}
 use Rattle.rooms.proofs.Laws.{over-length}
-use Rattle.desk_stream.specs.declared.Taken.{Taken}
 use Rattle.desk_stream.specs.Lines.{newline}
 use Rattle.desk_stream.specs.Reading.{most, kept}
 use Rattle.desk_stream.specs.Step.{before, handOf, Holds, Takes}
@@ -103,8 +101,8 @@ module _ (n₀ : ℕ) (piece : List ℕ) (from : ℕ) (line₀ : List ℕ) where
           full = ap length (holds .buffer) ∙ over-length longer line fit ∙ g .full;
           few = omega (arith, holds .count, length-take most (take n line ++ b ∷ []));
           hand =
-            ap (λ (l : List ℕ). kept (l ++ rest)) front ∙ kept-append (take n line ++ b ∷ []) rest ∙ ap kept (append-snoc (take n line) b rest) ∙
-            ap (λ (l : List ℕ). kept (take n line ++ l)) (sym more) ∙ g .hand;
+              ap (λ (l : List ℕ). kept (l ++ rest)) front ∙ kept-append (take n line ++ b ∷ []) rest ∙ ap kept (append-snoc (take n line) b rest) ∙
+              ap (λ (l : List ℕ). kept (take n line ++ l)) (sym more) ∙ g .hand;
           read = next at (length rest) ∙ ap (λ (l : List ℕ). at + length l) (sym more) ∙ g .read;
           buffer = holds .buffer ∙ ap (over longer) (g .buffer) ∙ over-over (take n line) longer line₀ wider ∙ ap (λ (l : List ℕ). over l line₀) (sym front);
         }

@@ -1,18 +1,14 @@
 -- How the code comes to the promise of a step and of the end. Assumes nothing.
 use mathlib.Core.Path.{_≡_, refl, sym, ap, _∙_}
-use mathlib.Core.Bool.{Bool, true, false}
-use mathlib.Core.List.{List, [], _++_}
-use Prim.Native.Nat.{ℕ, _+_, _-_, _≤_, _<_, min}
+use mathlib.Core.Bool.{true, false}
+use mathlib.Core.List.{List, _++_}
+use Prim.Native.Nat.{ℕ, _+_, _≤_, _<_, min}
 use native.Mathlib.Omega.{arith}
 use borrow.Author.Tests.{lt-ltb, le-ltb}
-use lib.Dec.{ltb}
 use lib.ListN.{length, take, drop, length-take, length-drop}
 use lib.Seq.{take-append-seam}
 use lib.Ieee.{Float}
-use Rattle.rooms.specs.Laid.{over}
 use Rattle.rooms.proofs.Laws.{over-length}
-use Rattle.hits.specs.Hit.{written}
-use Rattle.digits.specs.Spliced.{spliced}
 use Rattle.desk_line.specs.declared.Line.{Line}
 use Rattle.desk_line.specs.Read.{readLine}
 use Rattle.desk.specs.declared.Table.{Table}
@@ -22,7 +18,7 @@ use Rattle.desk.specs.Answer.{After as Desk, roomNeed, outNeed, done, answer}
 use Rattle.desk_stream.specs.declared.Stream.{Stream}
 use Rattle.desk_stream.specs.declared.Taken.{Taken}
 use Rattle.desk_stream.specs.Reading.{most, kept, following}
-use Rattle.desk_stream.specs.Step.{before, ends, handOf, Holds, Takes, After, Finished, answered, stepped, finished}
+use Rattle.desk_stream.specs.Step.{before, ends, handOf, Takes, After, Finished, answered, stepped, finished}
 use Rattle.desk_stream.proofs.Hand.{take-least}
 
 -- the desk's answer, the room and the buffer being long enough

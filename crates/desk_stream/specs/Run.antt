@@ -1,11 +1,13 @@
 -- A run of the program: the steps that it makes one after the other, each on any piece, from any place in it, with any room and buffer, and then the end. What is printed is what each
 -- leaves at the start of its buffer. Definitions only. Assumes nothing.
-use Prim.Native.Nat.{ℕ}
+use Prim.Native.Nat.{ℕ, _≤_}
+use mathlib.Core.Path.{_≡_}
 use mathlib.Core.List.{List, [], _∷_, _++_}
 use lib.ListN.{take, drop}
 use lib.Ieee.{Float}
 use Rattle.desk_stream.specs.declared.Stream.{Stream}
-use Rattle.desk_stream.specs.Step.{After, Finished, first, stepped, finished}
+use Rattle.desk_stream.specs.Reading.{Reading, most, fed}
+use Rattle.desk_stream.specs.Step.{After, readingOf, first, stepped, finished}
 
 -- what a step is lent
 pub record Lent : Type 0 where
@@ -37,3 +39,15 @@ ran s line (l ∷ ls) =
 -- what the end prints
 abbrev pub endOf : Ran → List Float → List ℕ → List ℕ
 endOf r room out = let f = finished (r .stream) (r .line) room out in take (f .printed) (f .out)
+
+-- ---- what the program says of its own state
+
+-- after these bytes, q having been known before them
+pub record Knows (q : Reading) (bytes : List ℕ) (s : Stream) (line : List ℕ) : Type 0 where
+  pub few : s .kept ≤ most
+  pub reading : readingOf s line ≡ fed q bytes .reading
+
+-- after some bytes: the contract of a read does not say which
+pub record KnowsSome (q : Reading) (s : Stream) (line : List ℕ) : Type 0 where
+  pub bytes : List ℕ
+  pub knows : Knows q bytes s line

@@ -35,9 +35,10 @@ before (b ∷ bytes) = cond (eqb b newline) [] (b ∷ before bytes)
 abbrev pub ends : List ℕ → Bool
 ends bytes = ltb (length (before bytes)) (length bytes)
 
--- the bytes that a step takes
+-- the bytes that a step takes: the newline too, where there is one
 unfoldable pub first : List ℕ → List ℕ
-first bytes = cond (ends bytes) (before bytes ++ newline ∷ []) (before bytes)
+first [] = []
+first (b ∷ bytes) = b ∷ cond (eqb b newline) [] (first bytes)
 
 -- the line at hand with them: the first n bytes of its buffer are kept so far
 abbrev pub handOf : ℕ → List ℕ → List ℕ → List ℕ

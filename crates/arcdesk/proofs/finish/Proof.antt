@@ -1,21 +1,11 @@
--- `arcdesk::finish` hands on no more of the line than there is. Assumes nothing.
-use native.Mathlib.Omega.{arith}
-use lib.ListN.{length-take}
+-- `arcdesk::finish` prints what the end leaves in the buffer. Assumes nothing.
 use borrow.Author.Needs.{needs}
+use Rattle.desk_stream.proofs.Pieces.{finish-prints}
 use Rattle.arcdesk.proofs.finish.Statement.{statement}
 use Rattle.arcdesk.proofs.finish.Tie as tie
 
-slice-aggregate-answer : tie.Need-slice-aggregate-answer
-slice-aggregate-answer c =
-    let test = c .before .before in
-    let table = test .before .before in
-    let slice-known = table .before .before in
-    let start = slice-known .before .before in
-    omega (arith, length-take (c .before .least .result) (start .args .line .now), c .before .least .ensures)
+print-requires : tie.Need-print-requires
+print-requires c κs = finish-prints _ _ _ _ _ _ _ (c .before .before .finish .ensures)
 
 pub finish-spec : {M : Type 1} → statement M
-finish-spec =
-    tie.close
-    (tie.spec
-    (λ c κs. search needs) slice-aggregate-answer (λ c κs. search needs) (λ c. search needs) (λ c. search needs)
-    (λ c. search needs) (λ c. search needs))
+finish-spec = tie.close (tie.spec (λ c κs. search needs) print-requires (λ c. search needs))
