@@ -51,12 +51,12 @@ crossed-unique n hs counts before told told' after after' p q = (p .answer ∙ s
 
 module _ (gs : List Given) (most : ℕ) (lent : Lengths) where
   pub room-fits : refusalOf gs false (short most lent) ≡ accepted → most ≤ lent .room / hitSize
-  room-fits e = long-enough most lent (unrefused (tested unfaulted gs) false (short most lent) e .1)
+  room-fits e = long-enough most lent (unrefused (tested unfaulted gs) false (short most lent) e .long)
 
   pub pair-fits : (depth : ℕ) → refusalOf gs (deep depth) (short most lent) ≡ accepted → (depth ≤ deepest) × (most ≤ lent .room / hitSize)
   pair-fits depth e =
-      let (shallow, wide) = unrefused (tested unfaulted gs) (deep depth) (short most lent) e in
-      (not-deep depth shallow, long-enough most lent wide)
+      let passed = unrefused (tested unfaulted gs) (deep depth) (short most lent) e in
+      (not-deep depth (passed .shallow), long-enough most lent (passed .long))
 
 -- ---- the closed forms have two hits at most, and two segments one
 

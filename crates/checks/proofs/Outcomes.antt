@@ -39,7 +39,8 @@ found-told-unique (found.Hits k) (found.Refused n) e = longer (ap (λ a. length 
 found-told-unique (found.Refused n) (found.Hits k) e = longer (ap (λ a. length (a .counts)) (sym e))
 found-told-unique (found.Refused n) (found.Refused m) e = ap (λ a. found.Refused (a .refusal)) e
 
-abbrev tallied : List ℕ → Tally
+-- six counts in a row, as a tally
+abbrev pub tallied : List ℕ → Tally
 tallied l =
     record {
       hits = getD l 0 0;

@@ -48,18 +48,24 @@ unfolding tested
 tested-append f [] hs = refl
 tested-append f (g ∷ gs) hs = tested-append (record { unreal = f .unreal || unreal g; beyond = f .beyond || beyond g }) gs hs
 
--- ---- what no refusal tells of the depth and the room
+-- ---- what no refusal tells: every test is passed
 
-pub unrefused : (f : Faults) (deep short : Bool) → refusal f deep short ≡ accepted → (deep ≡ false) × (short ≡ false)
+pub record Passed (f : Faults) (deep short : Bool) : Type 0 where
+  pub real : f .unreal ≡ false
+  pub within : f .beyond ≡ false
+  pub shallow : deep ≡ false
+  pub long : short ≡ false
+
+pub unrefused : (f : Faults) (deep short : Bool) → refusal f deep short ≡ accepted → Passed f deep short
 unfolding refusal
 unrefused f deep short = go (f .unreal) (f .beyond) deep short
   where
-    go : (a b c d : Bool) → cond a notANumber (cond b beyondLimit (cond c tooDeep (cond d roomTooShort accepted))) ≡ accepted → (c ≡ false) × (d ≡ false)
+    go : (a b c d : Bool) → cond a notANumber (cond b beyondLimit (cond c tooDeep (cond d roomTooShort accepted))) ≡ accepted → Passed (record { unreal = a; beyond = b }) c d
     go true b c d h = let z : _≡_ {A = ℕ} notANumber accepted = h in absurd (omega arith)
     go false true c d h = let z : _≡_ {A = ℕ} beyondLimit accepted = h in absurd (omega arith)
     go false false true d h = let z : _≡_ {A = ℕ} tooDeep accepted = h in absurd (omega arith)
     go false false false true h = let z : _≡_ {A = ℕ} roomTooShort accepted = h in absurd (omega arith)
-    go false false false false h = (refl, refl)
+    go false false false false h = record { real = refl; within = refl; shallow = refl; long = refl }
 
 pub not-deep : (depth : ℕ) → deep depth ≡ false → depth ≤ deepest
 not-deep depth e = omega (arith, ltb-false deepest depth e)

@@ -1,2 +1,3 @@
 -- What is proved of the definitions in specs/.
 pub mod Rooms
+pub mod NeverLoses

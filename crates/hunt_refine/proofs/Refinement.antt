@@ -28,7 +28,8 @@ use Rattle.hunt.specs.Hunt.{early, hunted}
 use Rattle.hunt.proofs.Hunts.{hunted-early, hunted-brackets}
 use Rattle.hunt_refine.specs.Levels.{sampleAt, cellAt, valueOf, ends}
 use Rattle.hunt_refine.specs.Limits.{Limited}
-use Rattle.hunt_refine.specs.Promise.{Worked, along, rising, Inside, Contained, Kept}
+use Rattle.hunt_refine.specs.Held.{StartHeld}
+use Rattle.hunt_refine.specs.Promise.{Worked, along, rising, parts, Inside, Contained, EachKept}
 use Rattle.hunt_refine.proofs.Samples.{cut-depths, span-wide}
 use Rattle.hunt_refine.proofs.SampleOrder.{cut-fits, cut-roomy, cut-rises, cut-falls}
 use Rattle.hunt_refine.proofs.Three.{bracket-straddles}
@@ -69,7 +70,7 @@ module _ (a : Arc) (l : Limited a) where
       last false false false e = tt
 
   -- ---- one level: the samples come in the order of the span
-  module _ (k : ℕ) (h : k ≤ 7) where
+  module _ (held : StartHeld a) (k : ℕ) (h : k ≤ 7) where
     small : (i : ℕ) → i ≤ cells k → i ≤ 2 ^ 20
     small i m = let r : 2 ^ k ≤ 2 ^ 7 = pow-mono h in omega arith
 
@@ -80,11 +81,11 @@ module _ (a : Arc) (l : Limited a) where
     next-along i m = go (rising a) refl
       where
         go : (c : Bool) → rising a ≡ c → T (along c (sampleAt a k i) (sampleAt a k (suc i)))
-        go true e = cut-rises (a .start) (span a) start-small span-small (cells k) some (small (cells k) (le-refl (cells k))) (l .startHeld) (up e) i (small (suc i) m)
+        go true e = cut-rises (a .start) (span a) start-small span-small (cells k) some (small (cells k) (le-refl (cells k))) held (up e) i (small (suc i) m)
           where
             up : rising a ≡ true → T (le zero (span a))
             up q = rw (← zero-bits, q) tt
-        go false e = cut-falls (a .start) (span a) start-small span-small (cells k) some (small (cells k) (le-refl (cells k))) (l .startHeld) (down e) i (small (suc i) m)
+        go false e = cut-falls (a .start) (span a) start-small span-small (cells k) some (small (cells k) (le-refl (cells k))) held (down e) i (small (suc i) m)
           where
             down : rising a ≡ false → T (le (span a) zero)
             down q = elim (lt-or-le (span a) zero (finite-number (span a) span-finite) (unfold lib.Ieee.isNan in tt)) [ inl s ↦ lt→le (span a) zero s | inr s ↦ absurd (rw (← zero-bits, q) at s) ]
@@ -109,8 +110,7 @@ module _ (a : Arc) (l : Limited a) where
         fewer j q = omega arith
 
     -- ---- THE NARROWED BRACKET
-    pub bracket-kept : (b : Arc) → Worked a b k → (i : ℕ) → i < cells k → T (brackets (cellAt a b k i))
-        → Kept (valueOf a b) (rising a) (cellAt a b k i .lo) (cellAt a b k i .hi) (narrowed (valueOf a b) 60 (opened (cellAt a b k i)))
+    pub bracket-kept : (b : Arc) → Worked a b k → EachKept a b k
     unfolding cell
     bracket-kept b w i m c =
         let x = sampleAt a k i in
@@ -121,8 +121,8 @@ module _ (a : Arc) (l : Limited a) where
         let rx = cut-roomy (a .start) (span a) start-small span-small (cells k) some (small (cells k) (le-refl (cells k))) i (small i (small' i m)) in
         let ry = cut-roomy (a .start) (span a) start-small span-small (cells k) some (small (cells k) (le-refl (cells k))) (suc i) (small (suc i) m) in
         held-kept g (rising a) x y rx ry (narrowed g 60 (opened (cellAt a b k i)))
-        (narrows g (rising a) x y (cut-fits (a .start) (span a) (cells k) i (l .startHeld))
-        (cut-fits (a .start) (span a) (cells k) (suc i) (l .startHeld)) rx ry (next-along i m) tx ty
+        (narrows g (rising a) x y (cut-fits (a .start) (span a) (cells k) i held)
+        (cut-fits (a .start) (span a) (cells k) (suc i) held) rx ry (next-along i m) tx ty
         (bracket-straddles (g x) (g y) tx ty c) 60 (w .middles i m c))
       where
         small' : (i : ℕ) → i < cells k → i ≤ cells k
@@ -149,21 +149,26 @@ module _ (a : Arc) (l : Limited a) where
     within : (i : ℕ) → i < cells k → 2 ^ d * suc i ≤ cells (k + d)
     within i m = rw deeper (mul-le-mul-left (2 ^ d) m)
 
-    inside : (i : ℕ) → i < cells k → Found (between fine) (2 ^ d * i) (2 ^ d * suc i) → Inside a b k i (k + d)
+    own-parts : parts k (k + d) ≡ 2 ^ d
+    own-parts = let e : k + d - k ≡ d = omega arith in rw e
+
+    inside : StartHeld a → (i : ℕ) → i < cells k → Found (between fine) (2 ^ d * i) (2 ^ d * suc i) → Inside a b k i (k + d)
     unfolding cell
-    inside i m f =
+    inside held i m f =
         let u = within i m in
         record {
           place = f .place;
           exists = omega (arith, f .before);
+          notBefore = rw own-parts (f .after);
+          notAfter = rw own-parts (f .before);
           brackets = f .passes;
-          from = rw (same-sample i (omega arith)) (samples-along (k + d) h (2 ^ d * i) (f .place) (f .after) (omega (arith, f .before)));
-          to = rw (same-sample (suc i) m) (samples-along (k + d) h (suc (f .place)) (2 ^ d * suc i) (f .before) u);
+          from = rw (same-sample i (omega arith)) (samples-along held (k + d) h (2 ^ d * i) (f .place) (f .after) (omega (arith, f .before)));
+          to = rw (same-sample (suc i) m) (samples-along held (k + d) h (suc (f .place)) (2 ^ d * suc i) (f .before) u);
         }
 
-    contains : (i : ℕ) → i < cells k → T (brackets (cellAt a b k i)) → Inside a b k i (k + d)
+    contains : StartHeld a → (i : ℕ) → i < cells k → T (brackets (cellAt a b k i)) → Inside a b k i (k + d)
     unfolding cell
-    contains i m c = inside i m (finer i m c)
+    contains held i m c = inside held i m (finer i m c)
 
     counted : (n : ℕ) → bracketed (firstCells (frame a b) (a .start) (part (span a) (cells n)) (cells n)) ≡ count (between (λ (i : ℕ). valueOf a b (sampleAt a n i))) (cells n)
     unfolding cell
@@ -173,20 +178,26 @@ module _ (a : Arc) (l : Limited a) where
     grows = rw (hunted-brackets a b k e, hunted-brackets a b (k + d) e, counted k, counted (k + d))
         (subst (λ (n : ℕ). count (between coarse) (cells k) ≤ count (between fine) n) (sym deeper) (count-refines (between coarse) (between fine) (2 ^ d) (cells k) finer))
 
--- THE DEMAND, for any two levels: the coarser one's values are among the finer one's
-pub finer-never-loses : (a b : Arc) → Limited a → (k k' : ℕ) → k ≤ k' → k' ≤ 7 → (ends a b ≡ false → Worked a b k') → Contained a b k k'
-finer-never-loses a b l k k' p q w =
-    subst (Contained a b k) deep
-    (record { contains = λ (e : ends a b ≡ false). contains a l b e k (k' - k) (rw deep q) (rw deep (w e)); noFewer = go (ends a b) refl })
-  where
-    deep : k + (k' - k) ≡ k'
-    deep = omega arith
+-- ---- any two levels: the coarser one's values are among the finer one's
+module _ (a b : Arc) (l : Limited a) (k k' : ℕ) (p : k ≤ k') (q : k' ≤ 7) (w : ends a b ≡ false → Worked a b k') where
+  deep : k + (k' - k) ≡ k'
+  deep = omega arith
 
-    go : (c : Bool) → ends a b ≡ c → hunted a b k .brackets ≤ hunted a b (k + (k' - k)) .brackets
-    go true e = rw (hunted-early a b k e, hunted-early a b (k + (k' - k)) e) (omega arith)
-    go false e = grows a l b e k (k' - k) (rw deep q) (rw deep (w e))
+  -- BRACKETS NEVER GROW FEWER, whatever a's start
+  pub never-fewer : hunted a b k .brackets ≤ hunted a b k' .brackets
+  never-fewer = subst (λ (n : ℕ). hunted a b k .brackets ≤ hunted a b n .brackets) deep (go (ends a b) refl)
+    where
+      go : (c : Bool) → ends a b ≡ c → hunted a b k .brackets ≤ hunted a b (k + (k' - k)) .brackets
+      go true e = rw (hunted-early a b k e, hunted-early a b (k + (k' - k)) e) (omega arith)
+      go false e = grows a l b e k (k' - k) (rw deep q) (rw deep (w e))
+
+  cell-contains : StartHeld a → ends a b ≡ false → (i : ℕ) → i < cells k → T (brackets (cellAt a b k i)) → Inside a b k i k'
+  cell-contains held e i m c = subst (Inside a b k i) deep (contains a l b e k (k' - k) (rw deep q) (rw deep (w e)) held i m c)
+
+  -- THE DEMAND
+  pub finer-never-loses : StartHeld a → Contained a b k k'
+  finer-never-loses held = record { contains = cell-contains held; noFewer = never-fewer }
 
 -- each bracket, once narrowed
-pub bracket-stays : (a b : Arc) → Limited a → (k : ℕ) → k ≤ 7 → Worked a b k → (i : ℕ) → i < cells k → T (brackets (cellAt a b k i))
-    → Kept (valueOf a b) (rising a) (cellAt a b k i .lo) (cellAt a b k i .hi) (narrowed (valueOf a b) 60 (opened (cellAt a b k i)))
-bracket-stays a b l k h = bracket-kept a l k h b
+pub bracket-stays : (a b : Arc) → Limited a → StartHeld a → (k : ℕ) → k ≤ 7 → Worked a b k → EachKept a b k
+bracket-stays a b l held k h = bracket-kept a l held k h b

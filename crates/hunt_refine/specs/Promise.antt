@@ -1,6 +1,6 @@
 -- Demand 3: "if every inside-outside value that the two hunts work out is zero or of size 2^-53 to 2^200, each cell where the coarser brackets a crossing contains a cell where the
 -- finer does; brackets never grow fewer; each, once narrowed, lies in its own cell and still has ends of opposite sign or an end at zero." Definitions only. Assumes nothing.
-use Prim.Native.Nat.{ℕ, _≤_, _<_}
+use Prim.Native.Nat.{ℕ, suc, _-_, _*_, _^_, _≤_, _<_}
 use mathlib.Core.Bool.{Bool, true, false, _||_}
 use mathlib.Core.Path.{_≡_}
 use lib.Dec.{T}
@@ -28,10 +28,16 @@ along false x y = le y x
 abbrev pub rising : Arc → Bool
 rising a = le zero (span a)
 
--- a cell of depth k' that brackets and lies in cell i of depth k
+-- how many cells of depth k' are the parts of one cell of depth k
+abbrev pub parts : ℕ → ℕ → ℕ
+parts k k' = 2 ^ (k' - k)
+
+-- a cell of depth k' that brackets and lies in cell i of depth k: it is one of that cell's own parts, and its angles lie between that cell's
 pub record Inside (a b : Arc) (k i k' : ℕ) : Type 0 where
   pub place : ℕ
   pub exists : place < cells k'
+  pub notBefore : parts k k' * i ≤ place
+  pub notAfter : place < parts k k' * suc i
   pub brackets : T (brackets (cellAt a b k' place))
   pub from : T (along (rising a) (cellAt a b k i .lo) (cellAt a b k' place .lo))
   pub to : T (along (rising a) (cellAt a b k' place .hi) (cellAt a b k i .hi))
@@ -54,3 +60,8 @@ pub record Kept (g : Float → Float) (up : Bool) (x y : Float) (s : Stretch) : 
   pub ends : T (straddles (g (s .lo)) (g (s .hi)))
   -- the point that is worked out at the end lies there too
   pub point : T (along up (s .lo) (middleOf s)) × T (along up (middleOf s) (s .hi))
+
+-- each bracket of the hunt of depth k, once narrowed by the 60 halvings
+abbrev pub EachKept : Arc → Arc → ℕ → Type 0
+EachKept a b k = (i : ℕ) → i < cells k → T (brackets (cellAt a b k i))
+    → Kept (valueOf a b) (rising a) (cellAt a b k i .lo) (cellAt a b k i .hi) (narrowed (valueOf a b) 60 (opened (cellAt a b k i)))

@@ -1,0 +1,3 @@
+-- The words in which the theorem of proofs/ is said.
+pub mod Answered
+pub mod NeverLoses
