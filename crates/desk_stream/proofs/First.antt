@@ -9,7 +9,7 @@ use borrow.Author.Tests.{eqb-true, lt-ltb, le-ltb}
 use lib.Dec.{eqb, ltb}
 use lib.ListN.{length, take, drop, length-append}
 use lib.Seq.{take-append-seam, take-add}
-use Rattle.desk_stream.specs.Lines.{newline}
+use Rattle.desk_output.specs.Lines.{newline}
 use Rattle.desk_stream.specs.Step.{before, ends, first}
 
 ltb-suc : (a b : ℕ) → ltb (suc a) (suc b) ≡ ltb a b

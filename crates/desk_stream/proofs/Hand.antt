@@ -10,10 +10,10 @@ use lib.ListN.{length, getD, take, drop, set, length-append, length-take, take-a
 use lib.Seq.{take-all, drop-length, length-take-le, take-append-seam, take-append-le, append-snoc, drop-cons, drop-drop, drop-append-add, set-split}
 use Rattle.rooms.specs.Laid.{over}
 use Rattle.rooms.proofs.Laws.{over-length}
-use Rattle.desk_stream.specs.Lines.{newline}
-use Rattle.desk_stream.specs.Reading.{most, kept}
+use Rattle.desk_output.specs.Lines.{newline}
+use Rattle.desk_output.specs.Reading.{most, kept}
 use Rattle.desk_stream.specs.Step.{before, handOf, Holds, Takes}
-use Rattle.desk_stream.proofs.Kept.{kept-append, kept-whole}
+use Rattle.desk_output.proofs.Kept.{kept-append, kept-whole}
 
 -- ---- one byte more
 

@@ -1,7 +1,6 @@
 -- What is proved of the definitions in specs/.
-pub mod Kept
-pub mod Fed
 pub mod First
+pub mod Before
 pub mod Hand
 pub mod Steps
 pub mod Runs

@@ -12,10 +12,10 @@ use Rattle.desk_line.specs.Read.{readLine}
 use Rattle.desk.specs.Reply.{Shown, shown}
 use Rattle.desk_stream.specs.declared.Stream.{Stream}
 use Rattle.desk_stream.specs.declared.Progress.{Progress}
-use Rattle.desk_stream.specs.Reading.{Reading, Fed, most, start, fed}
+use Rattle.desk_output.specs.Reading.{Reading, Fed, most, start, fed}
 use Rattle.desk_stream.specs.Step.{beginning, readingOf, before, ends, first, handOf, After, Finished, answered, waiting, stepped, finishing, finished}
 use Rattle.desk_stream.specs.Run.{Knows, KnowsSome}
-use Rattle.desk_stream.proofs.Fed.{fed-append}
+use Rattle.desk_output.proofs.Fed.{fed-append}
 use Rattle.desk_stream.proofs.First.{first-within, first-some, take-first}
 use Rattle.desk_stream.proofs.Runs.{stepped-feeds, stepped-read}
 

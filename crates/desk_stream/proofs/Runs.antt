@@ -12,12 +12,13 @@ use Rattle.digits.specs.Spliced.{spliced}
 use Rattle.desk_line.specs.Read.{readLine}
 use Rattle.desk.specs.Reply.{Shown, shown}
 use Rattle.desk_stream.specs.declared.Stream.{Stream}
-use Rattle.desk_stream.specs.Lines.{newline}
-use Rattle.desk_stream.specs.Output.{output}
-use Rattle.desk_stream.specs.Reading.{Reading, Fed, most, kept, largest, start, fed, last}
+use Rattle.desk_output.specs.Lines.{newline}
+use Rattle.desk_output.specs.Output.{output}
+use Rattle.desk_output.specs.Reading.{Reading, Fed, most, largest, start, fed, last}
 use Rattle.desk_stream.specs.Step.{beginning, readingOf, before, ends, first, handOf, After, Finished, answered, waiting, stepped, finishing, finished}
 use Rattle.desk_stream.specs.Run.{Lent, taken, stepOf, Ran, ran, endOf}
-use Rattle.desk_stream.proofs.Fed.{then, fed-append, fed-before, fed-output}
+use Rattle.desk_output.proofs.Fed.{then, fed-append, fed-output}
+use Rattle.desk_stream.proofs.Before.{fed-before}
 use Rattle.desk_stream.proofs.First.{first-before}
 
 -- ---- one step

@@ -17,7 +17,7 @@ use Rattle.desk.specs.Reply.{shown, tableAfter}
 use Rattle.desk.specs.Answer.{After as Desk, roomNeed, outNeed, done, answer}
 use Rattle.desk_stream.specs.declared.Stream.{Stream}
 use Rattle.desk_stream.specs.declared.Taken.{Taken}
-use Rattle.desk_stream.specs.Reading.{most, kept, following}
+use Rattle.desk_output.specs.Reading.{most, kept, following}
 use Rattle.desk_stream.specs.Step.{before, ends, handOf, Takes, After, Finished, answered, stepped, finished}
 use Rattle.desk_stream.proofs.Hand.{take-least}
 

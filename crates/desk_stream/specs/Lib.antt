@@ -1,6 +1,3 @@
--- What the contracts of the crate cite, and what the program is to print for all its input.
-pub mod Lines
-pub mod Output
-pub mod Reading
+-- What the contracts of the crate and of the program cite, and what a run of the program is.
 pub mod Step
 pub mod Run

@@ -6,7 +6,7 @@ use mathlib.Core.List.{List, [], _∷_, _++_}
 use lib.ListN.{take, drop}
 use lib.Ieee.{Float}
 use Rattle.desk_stream.specs.declared.Stream.{Stream}
-use Rattle.desk_stream.specs.Reading.{Reading, most, fed}
+use Rattle.desk_output.specs.Reading.{Reading, most, fed}
 use Rattle.desk_stream.specs.Step.{After, readingOf, first, stepped, finished}
 
 -- what a step is lent

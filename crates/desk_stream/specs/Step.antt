@@ -16,8 +16,8 @@ use Rattle.desk.specs.Reply.{Shown, shown, tableAfter}
 use Rattle.desk_stream.specs.declared.Stream.{Stream}
 use Rattle.desk_stream.specs.declared.Taken.{Taken}
 use Rattle.desk_stream.specs.declared.Progress.{Progress}
-use Rattle.desk_stream.specs.Lines.{newline}
-use Rattle.desk_stream.specs.Reading.{Reading, kept, following}
+use Rattle.desk_output.specs.Lines.{newline}
+use Rattle.desk_output.specs.Reading.{Reading, kept, following}
 
 abbrev pub beginning : Stream
 beginning = record { table = empty; number = 1; kept = 0 }

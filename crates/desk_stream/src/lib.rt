@@ -5,7 +5,7 @@ ghost use Prim.Native.Nat.{_≤_, min};
 ghost use lib.ListN.{length, take};
 ghost use Rattle.desk_line.specs.Read.{readLine};
 ghost use Rattle.desk.specs.Answer.{roomNeed, outNeed};
-ghost use Rattle.desk_stream.specs.Reading.{most, kept, following};
+ghost use Rattle.desk_output.specs.Reading.{most, kept, following};
 ghost use Rattle.desk_stream.specs.Step.{beginning, Holds, Takes, stepped, finished};
 use desk::OUT_NEED;
 use desk::ROOM_NEED;

@@ -3,7 +3,7 @@ use mathlib.Core.List.{[]}
 use Prim.Native.Nat.{_<_, _^_}
 use native.Mathlib.Omega.{arith}
 use borrow.Author.Needs.{needs}
-use Rattle.desk_stream.specs.Reading.{start}
+use Rattle.desk_output.specs.Reading.{start}
 use Rattle.desk_stream.specs.Run.{KnowsSome}
 use Rattle.desk_stream.proofs.Pieces.{knows-start, knows-behind}
 use Rattle.arcdesk.proofs.read_all.Statement.{statement}

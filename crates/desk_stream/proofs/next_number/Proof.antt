@@ -1,6 +1,6 @@
 -- `next_number` meets its contract. Assumes nothing.
 use mathlib.Core.Path.{sym}
-use Rattle.desk_stream.proofs.Fed.{following-plain, following-largest}
+use Rattle.desk_output.proofs.Fed.{following-plain, following-largest}
 use borrow.Author.Needs.{needs}
 use Rattle.desk_stream.proofs.next_number.Statement.{statement}
 use Rattle.desk_stream.proofs.next_number.Tie as tie

@@ -8,7 +8,7 @@ use lib.ListN.{length, take}
 use lib.Seq.{take-all, length-take-le}
 use Rattle.desk_line.specs.Read.{readLine}
 use Rattle.desk_line.proofs.FirstByte.{read-long}
-use Rattle.desk_stream.specs.Reading.{most, kept}
+use Rattle.desk_output.specs.Reading.{most, kept}
 
 take-front : (n : ℕ) (xs ys : List ℕ) → take n (take n xs ++ ys) ≡ take n (xs ++ ys)
 take-front zero xs ys = refl

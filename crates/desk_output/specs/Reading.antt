@@ -9,7 +9,7 @@ use Rattle.desk_line.specs.Read.{readLine}
 use Rattle.desk.specs.declared.Table.{Table}
 use Rattle.desk.specs.Table.{empty}
 use Rattle.desk.specs.Reply.{shown, tableAfter}
-use Rattle.desk_stream.specs.Lines.{newline}
+use Rattle.desk_output.specs.Lines.{newline}
 
 abbrev pub most : ℕ
 most = 257

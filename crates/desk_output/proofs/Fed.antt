@@ -6,17 +6,16 @@ use Prim.Native.Nat.{ℕ, _+_, _≤_, _<_}
 use native.Mathlib.Omega.{arith}
 use borrow.Author.Tests.{lt-ltb, le-ltb}
 use lib.Dec.{eqb}
-use lib.ListN.{length, length-take}
+use lib.ListN.{length}
 use lib.Seq.{append-snoc}
 use Rattle.desk_line.specs.declared.Line.{Line}
 use Rattle.desk_line.specs.Read.{readLine}
 use Rattle.desk.specs.declared.Table.{Table}
 use Rattle.desk.specs.Reply.{shown, tableAfter}
-use Rattle.desk_stream.specs.Lines.{newline, begun, lines}
-use Rattle.desk_stream.specs.Output.{answers, output}
-use Rattle.desk_stream.specs.Reading.{Reading, Fed, most, kept, largest, following, start, answerOf, ended, next, fed, last}
-use Rattle.desk_stream.specs.Step.{before}
-use Rattle.desk_stream.proofs.Kept.{kept-append, kept-whole, read-kept}
+use Rattle.desk_output.specs.Lines.{newline, begun, lines}
+use Rattle.desk_output.specs.Output.{answers, output}
+use Rattle.desk_output.specs.Reading.{Reading, Fed, kept, largest, following, start, answerOf, ended, next, fed, last}
+use Rattle.desk_output.proofs.Kept.{kept-append, read-kept}
 
 -- ---- bytes in two parts
 
@@ -32,10 +31,10 @@ fed-append q (b ∷ xs) ys =
     ap (λ (l : List ℕ). record { printed = l; reading = fed (fed (one .reading) xs .reading) ys .reading })
     (sym (append-assoc (one .printed) (fed (one .reading) xs .printed) (fed (fed (one .reading) xs .reading) ys .printed)))
 
--- ---- the bytes before a newline
+-- ---- one byte
 
 -- the same line, longer
-abbrev held : Reading → List ℕ → Reading
+abbrev pub held : Reading → List ℕ → Reading
 held q line = record { table = q .table; number = q .number; line = line }
 
 -- a newline
@@ -44,34 +43,9 @@ unfolding fed
 fed-newline q b bytes e = rw e refl
 
 -- a byte that is none
-fed-byte : (q : Reading) (b : ℕ) (bytes : List ℕ) → eqb b newline ≡ false → fed q (b ∷ bytes) ≡ fed (held q (kept (q .line ++ b ∷ []))) bytes
+pub fed-byte : (q : Reading) (b : ℕ) (bytes : List ℕ) → eqb b newline ≡ false → fed q (b ∷ bytes) ≡ fed (held q (kept (q .line ++ b ∷ []))) bytes
 unfolding fed
 fed-byte q b bytes e = rw e refl
-
-fed-none : (q : Reading) → length (q .line) ≤ most → fed q [] ≡ record { printed = []; reading = held q (kept (q .line ++ [])) }
-unfolding fed
-fed-none q few = ap (λ (l : List ℕ). record { printed = []; reading = held q l }) (sym (ap kept (append-nil (q .line)) ∙ kept-whole (q .line) few))
-
-pub fed-before : (q : Reading) (bytes : List ℕ) → length (q .line) ≤ most → fed q (before bytes) ≡ record { printed = []; reading = held q (kept (q .line ++ before bytes)) }
-unfolding fed before
-fed-before q [] few = fed-none q few
-fed-before q (b ∷ bytes) few = go (eqb b newline) refl (fed-none q few) (fed-before (held q longerLine) bytes short)
-  where
-    longerLine : List ℕ
-    longerLine = kept (q .line ++ b ∷ [])
-
-    short : length longerLine ≤ most
-    short = omega (arith, length-take most (q .line ++ b ∷ []))
-
-    same : kept (longerLine ++ before bytes) ≡ kept (q .line ++ b ∷ before bytes)
-    same = kept-append (q .line ++ b ∷ []) (before bytes) ∙ ap kept (append-snoc (q .line) b (before bytes))
-
-    Keeps : Reading → List ℕ → Type 0
-    Keeps p line = fed p line ≡ record { printed = []; reading = held p (kept (p .line ++ line)) }
-
-    go : (e : Bool) → eqb b newline ≡ e → Keeps q [] → Keeps (held q longerLine) (before bytes) → Keeps q (cond e [] (b ∷ before bytes))
-    go true e none more = none
-    go false e none more = rw e (more ∙ ap (λ (l : List ℕ). record { printed = []; reading = held q l }) same)
 
 -- ---- all of them
 

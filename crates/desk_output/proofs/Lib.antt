@@ -1,0 +1,3 @@
+-- That the two ways of saying what is printed agree.
+pub mod Kept
+pub mod Fed

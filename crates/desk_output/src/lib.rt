@@ -1,0 +1,1 @@
+// What is printed for all the input: definitions and laws alone.
