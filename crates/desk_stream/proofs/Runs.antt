@@ -128,15 +128,25 @@ ran-reads s line (l ∷ ls) few =
           sym (ap (λ (x : Fed). x .printed) all);
     }
 
--- THE STREAM IS THE OUTPUT. Fewer than 2^64 - 2 bytes have line numbers of 64 bits.
-pub run-output : (line : List ℕ) (ls : List Lent) (room : List Float) (out : List ℕ) → let r = ran beginning line ls in
-    1 + length (r .bytes) < largest → r .printed ++ endOf r room out ≡ output (r .bytes)
-run-output line ls room out h =
+-- what is printed goes by the bytes alone
+run-prints : (line : List ℕ) (ls : List Lent) (room : List Float) (out : List ℕ) → let r = ran beginning line ls in
+    r .printed ++ endOf r room out ≡ fed start (r .bytes) .printed ++ last (fed start (r .bytes) .reading)
+run-prints line ls room out =
     let r = ran beginning line ls in
     let reads = ran-reads beginning line ls (omega arith) in
     ap (λ (x : List ℕ). x ++ endOf r room out) (reads .printed) ∙
-    ap (λ (x : List ℕ). fed start (r .bytes) .printed ++ x) (finished-last (r .stream) (r .line) room out ∙ ap last (reads .reading)) ∙
-    fed-output (r .bytes) h
+    ap (λ (x : List ℕ). fed start (r .bytes) .printed ++ x) (finished-last (r .stream) (r .line) room out ∙ ap last (reads .reading))
+
+-- THE STREAM IS THE OUTPUT. Fewer than 2^64 - 2 bytes have line numbers of 64 bits.
+pub run-output : (line : List ℕ) (ls : List Lent) (room : List Float) (out : List ℕ) → let r = ran beginning line ls in
+    1 + length (r .bytes) < largest → r .printed ++ endOf r room out ≡ output (r .bytes)
+run-output line ls room out h = run-prints line ls room out ∙ fed-output (ran beginning line ls .bytes) h
+
+-- WHATEVER THE PIECES: two runs that take the same bytes print the same
+pub pieces-alike : (line line' : List ℕ) (ls ls' : List Lent) (room room' : List Float) (out out' : List ℕ) → let r = ran beginning line ls in let r' = ran beginning line' ls' in
+    r .bytes ≡ r' .bytes → r .printed ++ endOf r room out ≡ r' .printed ++ endOf r' room' out'
+pieces-alike line line' ls ls' room room' out out' same =
+    run-prints line ls room out ∙ ap (λ (bytes : List ℕ). fed start bytes .printed ++ last (fed start bytes .reading)) same ∙ sym (run-prints line' ls' room' out')
 
 -- ---- NO SECOND OUTCOME
 
