@@ -2,12 +2,13 @@
 // `desk_stream`, of pieces of any size. Here the pieces are only read, and what each step leaves in `out` is only written.
 ghost use Prim.Native.Nat.{_≤_};
 ghost use lib.ListN.{length};
-ghost use Rattle.desk_output.specs.Reading.{most, start};
+ghost use Rattle.desk_lines.specs.Hand.{most};
+ghost use Rattle.desk_output.specs.Reading.{start};
 ghost use Rattle.desk_stream.specs.Step.{readingOf};
 ghost use Rattle.desk_stream.specs.Run.{Knows, KnowsSome};
 use desk::OUT_NEED;
 use desk::ROOM_NEED;
-use desk_stream::KEPT;
+use desk_lines::KEPT;
 use desk_stream::Stream;
 use libc::STDIN_FILENO;
 use libc::STDOUT_FILENO;

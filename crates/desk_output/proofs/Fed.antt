@@ -12,10 +12,12 @@ use Rattle.desk_line.specs.declared.Line.{Line}
 use Rattle.desk_line.specs.Read.{readLine}
 use Rattle.desk.specs.declared.Table.{Table}
 use Rattle.desk.specs.Reply.{shown, tableAfter}
-use Rattle.desk_output.specs.Lines.{newline, begun, lines}
+use Rattle.desk_lines.specs.Lines.{newline, begun, lines}
 use Rattle.desk_output.specs.Output.{answers, output}
-use Rattle.desk_output.specs.Reading.{Reading, Fed, kept, largest, following, start, answerOf, ended, next, fed, last}
-use Rattle.desk_output.proofs.Kept.{kept-append, read-kept}
+use Rattle.desk_output.specs.Reading.{Reading, Fed, largest, following, start, answerOf, ended, next, fed, last}
+use Rattle.desk_lines.specs.Hand.{kept}
+use Rattle.desk_lines.proofs.Kept.{kept-append}
+use Rattle.desk_output.proofs.Kept.{read-kept}
 
 -- ---- bytes in two parts
 

@@ -1,4 +1,3 @@
--- The lines of all bytes, what is printed for them, and the same as the bytes come.
-pub mod Lines
+-- What is printed for all the input, and the same as the bytes come.
 pub mod Output
 pub mod Reading

@@ -6,7 +6,7 @@ use Rattle.desk_line.specs.Read.{readLine}
 use Rattle.desk.specs.declared.Table.{Table}
 use Rattle.desk.specs.Table.{empty}
 use Rattle.desk.specs.Reply.{shown, tableAfter}
-use Rattle.desk_output.specs.Lines.{lines}
+use Rattle.desk_lines.specs.Lines.{lines}
 
 -- the answers to the lines from number n on
 unfoldable pub answers : Table → ℕ → List (List ℕ) → List ℕ

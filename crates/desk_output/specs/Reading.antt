@@ -1,21 +1,16 @@
--- The input as it comes: what is known after some bytes, and what is printed for the next ones. 01: "A record number that begins with 0 or a line above 256 bytes is malformed": so of a
--- line 257 bytes are kept, and it is malformed however long it is. That this prints `output` is proved in proofs/Stream.antt. Definitions only. Assumes nothing.
+-- The input as it comes: what is known after some bytes, and what is printed for the next ones. Of a line so much is kept as tells that it is malformed. That this prints `output` is
+-- `fed-output` in proofs/Fed.antt. Definitions only. Assumes nothing.
 use Prim.Native.Nat.{ℕ, _+_}
 use mathlib.Core.Bool.{cond}
 use mathlib.Core.List.{List, [], _∷_, _++_}
 use lib.Dec.{eqb, ltb}
-use lib.ListN.{length, take}
+use lib.ListN.{length}
 use Rattle.desk_line.specs.Read.{readLine}
 use Rattle.desk.specs.declared.Table.{Table}
 use Rattle.desk.specs.Table.{empty}
 use Rattle.desk.specs.Reply.{shown, tableAfter}
-use Rattle.desk_output.specs.Lines.{newline}
-
-abbrev pub most : ℕ
-most = 257
-
-abbrev pub kept : List ℕ → List ℕ
-kept line = take most line
+use Rattle.desk_lines.specs.Lines.{newline}
+use Rattle.desk_lines.specs.Hand.{kept}
 
 -- the table so far, the number of the line at hand, and what is kept of it
 pub record Reading : Type 0 where

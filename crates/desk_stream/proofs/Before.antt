@@ -7,11 +7,11 @@ use native.Mathlib.Omega.{arith}
 use lib.Dec.{eqb}
 use lib.ListN.{length, length-take}
 use lib.Seq.{append-snoc}
-use Rattle.desk_output.specs.Lines.{newline}
-use Rattle.desk_output.specs.Reading.{Reading, most, kept, fed}
-use Rattle.desk_output.proofs.Kept.{kept-append, kept-whole}
+use Rattle.desk_lines.specs.Lines.{newline}
+use Rattle.desk_lines.specs.Hand.{most, kept, before}
+use Rattle.desk_lines.proofs.Kept.{kept-append, kept-whole}
+use Rattle.desk_output.specs.Reading.{Reading, fed}
 use Rattle.desk_output.proofs.Fed.{held, fed-byte}
-use Rattle.desk_stream.specs.Step.{before}
 
 fed-none : (q : Reading) → length (q .line) ≤ most → fed q [] ≡ record { printed = []; reading = held q (kept (q .line ++ [])) }
 unfolding fed

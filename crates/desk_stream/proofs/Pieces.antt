@@ -12,11 +12,12 @@ use Rattle.desk_line.specs.Read.{readLine}
 use Rattle.desk.specs.Reply.{Shown, shown}
 use Rattle.desk_stream.specs.declared.Stream.{Stream}
 use Rattle.desk_stream.specs.declared.Progress.{Progress}
-use Rattle.desk_output.specs.Reading.{Reading, Fed, most, start, fed}
-use Rattle.desk_stream.specs.Step.{beginning, readingOf, before, ends, first, handOf, After, Finished, answered, waiting, stepped, finishing, finished}
+use Rattle.desk_lines.specs.Hand.{most, ends, first, handOf}
+use Rattle.desk_lines.proofs.First.{first-within, first-some, take-first}
+use Rattle.desk_output.specs.Reading.{Reading, Fed, start, fed}
+use Rattle.desk_stream.specs.Step.{beginning, readingOf, After, Finished, answered, waiting, stepped, finishing, finished}
 use Rattle.desk_stream.specs.Run.{Knows, KnowsSome}
 use Rattle.desk_output.proofs.Fed.{fed-append}
-use Rattle.desk_stream.proofs.First.{first-within, first-some, take-first}
 use Rattle.desk_stream.proofs.Runs.{stepped-feeds, stepped-read}
 
 -- ---- what is printed stands in the buffer
@@ -33,7 +34,7 @@ stepped-fits s piece from line room out = go (ends bytes)
     bytes = drop from piece
 
     left : Bool → After
-    left e = cond e (answered s (from + length (before bytes) + 1) (handOf (s .kept) line bytes) line room out) (waiting s (from + length (before bytes)) (handOf (s .kept) line bytes) line room out)
+    left e = cond e (answered s (from + length (first bytes)) (handOf (s .kept) line bytes) line room out) (waiting s (from + length (first bytes)) (handOf (s .kept) line bytes) line room out)
 
     go : (e : Bool) → left e .step .printed ≤ length (left e .out)
     go true = spliced-long out (shown (s .table) (s .number) (readLine (handOf (s .kept) line bytes)) .bytes)

@@ -12,14 +12,15 @@ use Rattle.digits.specs.Spliced.{spliced}
 use Rattle.desk_line.specs.Read.{readLine}
 use Rattle.desk.specs.Reply.{Shown, shown}
 use Rattle.desk_stream.specs.declared.Stream.{Stream}
-use Rattle.desk_output.specs.Lines.{newline}
+use Rattle.desk_lines.specs.Lines.{newline}
+use Rattle.desk_lines.specs.Hand.{most, before, ends, first, handOf}
+use Rattle.desk_lines.proofs.First.{first-before}
 use Rattle.desk_output.specs.Output.{output}
-use Rattle.desk_output.specs.Reading.{Reading, Fed, most, largest, start, fed, last}
-use Rattle.desk_stream.specs.Step.{beginning, readingOf, before, ends, first, handOf, After, Finished, answered, waiting, stepped, finishing, finished}
+use Rattle.desk_output.specs.Reading.{Reading, Fed, largest, start, fed, last}
+use Rattle.desk_stream.specs.Step.{beginning, readingOf, After, Finished, answered, waiting, stepped, finishing, finished}
 use Rattle.desk_stream.specs.Run.{Lent, taken, stepOf, Ran, ran, endOf}
 use Rattle.desk_output.proofs.Fed.{then, fed-append, fed-output}
 use Rattle.desk_stream.proofs.Before.{fed-before}
-use Rattle.desk_stream.proofs.First.{first-before}
 
 -- ---- one step
 
@@ -67,28 +68,33 @@ module _ (s : Stream) (line : List ℕ) (room : List Float) (out : List ℕ) (fe
 pub stepped-feeds : (s : Stream) (piece : List ℕ) (from : ℕ) (line : List ℕ) (room : List Float) (out : List ℕ) → s .kept ≤ most
     → Feeds (readingOf s line) (first (drop from piece)) (stepped s piece from line room out)
 unfolding stepped
-stepped-feeds s piece from line room out few = rw (first-before (drop from piece)) (go (ends (drop from piece)))
+stepped-feeds s piece from line room out few = go (ends (drop from piece)) (first-before (drop from piece))
   where
     bytes : List ℕ
     bytes = drop from piece
 
-    go : (e : Bool) → Feeds (readingOf s line) (cond e (before bytes ++ newline ∷ []) (before bytes))
-        (cond e (answered s (from + length (before bytes) + 1) (handOf (s .kept) line bytes) line room out) (waiting s (from + length (before bytes)) (handOf (s .kept) line bytes) line room out))
-    go true = feeds-answered s line room out few bytes (from + length (before bytes) + 1)
-    go false = feeds-waiting s line room out few bytes (from + length (before bytes))
+    read : ℕ
+    read = from + length (first bytes)
+
+    go : (e : Bool) → first bytes ≡ cond e (before bytes ++ newline ∷ []) (before bytes)
+        → Feeds (readingOf s line) (first bytes) (cond e (answered s read (handOf (s .kept) line bytes) line room out) (waiting s read (handOf (s .kept) line bytes) line room out))
+    go true e = rw e (feeds-answered s line room out few bytes (from + length (before bytes ++ newline ∷ [])))
+    go false e = rw e (feeds-waiting s line room out few bytes (from + length (before bytes)))
 
 -- up to where the piece is read
 pub stepped-read : (s : Stream) (piece : List ℕ) (from : ℕ) (line : List ℕ) (room : List Float) (out : List ℕ)
     → stepped s piece from line room out .step .read ≡ from + length (first (drop from piece))
 unfolding stepped
-stepped-read s piece from line room out = rw (first-before (drop from piece)) (go (ends (drop from piece)))
+stepped-read s piece from line room out = go (ends (drop from piece))
   where
     bytes : List ℕ
     bytes = drop from piece
 
-    go : (e : Bool) → cond e (answered s (from + length (before bytes) + 1) (handOf (s .kept) line bytes) line room out)
-        (waiting s (from + length (before bytes)) (handOf (s .kept) line bytes) line room out) .step .read ≡ from + length (cond e (before bytes ++ newline ∷ []) (before bytes))
-    go true = omega (arith, length-append (before bytes) (newline ∷ []))
+    read : ℕ
+    read = from + length (first bytes)
+
+    go : (e : Bool) → cond e (answered s read (handOf (s .kept) line bytes) line room out) (waiting s read (handOf (s .kept) line bytes) line room out) .step .read ≡ read
+    go true = refl
     go false = refl
 
 pub finished-last : (s : Stream) (line : List ℕ) (room : List Float) (out : List ℕ) → let f = finished s line room out in take (f .printed) (f .out) ≡ last (readingOf s line)

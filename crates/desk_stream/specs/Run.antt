@@ -6,8 +6,9 @@ use mathlib.Core.List.{List, [], _∷_, _++_}
 use lib.ListN.{take, drop}
 use lib.Ieee.{Float}
 use Rattle.desk_stream.specs.declared.Stream.{Stream}
-use Rattle.desk_output.specs.Reading.{Reading, most, fed}
-use Rattle.desk_stream.specs.Step.{After, readingOf, first, stepped, finished}
+use Rattle.desk_lines.specs.Hand.{most, first}
+use Rattle.desk_output.specs.Reading.{Reading, fed}
+use Rattle.desk_stream.specs.Step.{After, readingOf, stepped, finished}
 
 -- what a step is lent
 pub record Lent : Type 0 where

@@ -1,23 +1,21 @@
 -- What one step leaves: it takes the bytes of a piece from a place on, up to and with the first newline, or all. The bytes of the line at hand stand at the start of `line`, the bytes to
 -- print at the start of `out`, a query's hits at the start of `room`; what is behind them is as lent. Definitions only. Assumes nothing.
 use Prim.Native.Nat.{ℕ, _+_}
-use mathlib.Core.Path.{_≡_}
-use mathlib.Core.Bool.{Bool, cond}
-use mathlib.Core.List.{List, [], _∷_, _++_}
-use lib.Dec.{eqb, ltb}
+use mathlib.Core.Bool.{cond}
+use mathlib.Core.List.{List}
+use lib.Dec.{ltb}
 use lib.ListN.{length, take, drop}
 use lib.Ieee.{Float}
 use Rattle.rooms.specs.Laid.{over}
 use Rattle.hits.specs.Hit.{written}
 use Rattle.digits.specs.Spliced.{spliced}
+use Rattle.desk_lines.specs.Hand.{ends, first, handOf}
 use Rattle.desk_line.specs.Read.{readLine}
 use Rattle.desk.specs.Table.{empty}
 use Rattle.desk.specs.Reply.{Shown, shown, tableAfter}
+use Rattle.desk_output.specs.Reading.{Reading, following}
 use Rattle.desk_stream.specs.declared.Stream.{Stream}
-use Rattle.desk_stream.specs.declared.Taken.{Taken}
 use Rattle.desk_stream.specs.declared.Progress.{Progress}
-use Rattle.desk_output.specs.Lines.{newline}
-use Rattle.desk_output.specs.Reading.{Reading, kept, following}
 
 abbrev pub beginning : Stream
 beginning = record { table = empty; number = 1; kept = 0 }
@@ -25,34 +23,6 @@ beginning = record { table = empty; number = 1; kept = 0 }
 -- what the code's state and the buffer of the line stand for
 abbrev pub readingOf : Stream → List ℕ → Reading
 readingOf s line = record { table = s .table; number = s .number; line = take (s .kept) line }
-
--- the bytes before the first newline, all where there is none
-unfoldable pub before : List ℕ → List ℕ
-before [] = []
-before (b ∷ bytes) = cond (eqb b newline) [] (b ∷ before bytes)
-
--- whether there is a newline
-abbrev pub ends : List ℕ → Bool
-ends bytes = ltb (length (before bytes)) (length bytes)
-
--- the bytes that a step takes: the newline too, where there is one
-unfoldable pub first : List ℕ → List ℕ
-first [] = []
-first (b ∷ bytes) = b ∷ cond (eqb b newline) [] (first bytes)
-
--- the line at hand with them: the first n bytes of its buffer are kept so far
-abbrev pub handOf : ℕ → List ℕ → List ℕ → List ℕ
-handOf n line bytes = kept (take n line ++ before bytes)
-
--- a longer hand in the buffer: how many bytes it has, and the buffer before and after
-pub record Holds (hand line : List ℕ) (n : ℕ) (line' : List ℕ) : Type 0 where
-  pub count : n ≡ length hand
-  pub buffer : line' ≡ over hand line
-
--- the hand with what a step takes, and up to where the piece is read
-pub record Takes (n : ℕ) (piece : List ℕ) (from : ℕ) (line : List ℕ) (r : Taken) (line' : List ℕ) : Type 0 where
-  pub read : r .read ≡ from + length (before (drop from piece))
-  pub hand : Holds (handOf n line (drop from piece)) line (r .kept) line'
 
 pub record After : Type 0 where
   pub step : Progress
@@ -90,8 +60,8 @@ unfoldable pub stepped : Stream → List ℕ → ℕ → List ℕ → List Float
 stepped s piece from line room out =
     let bytes = drop from piece in
     let hand = handOf (s .kept) line bytes in
-    let end = from + length (before bytes) in
-    cond (ends bytes) (answered s (end + 1) hand line room out) (waiting s end hand line room out)
+    let read = from + length (first bytes) in
+    cond (ends bytes) (answered s read hand line room out) (waiting s read hand line room out)
 
 -- ---- the input has ended
 

@@ -1,30 +1,22 @@
 // The input of arcdesk, in pieces of any size: lines are found in it and answered, a step at a time. It reads and writes nothing itself.
 ghost use mathlib.Core.Path.{_≡_};
-ghost use mathlib.Core.List.{[], _∷_, _++_};
-ghost use Prim.Native.Nat.{_≤_, min};
+ghost use Prim.Native.Nat.{_≤_};
 ghost use lib.ListN.{length, take};
 ghost use Rattle.desk_line.specs.Read.{readLine};
 ghost use Rattle.desk.specs.Answer.{roomNeed, outNeed};
-ghost use Rattle.desk_output.specs.Reading.{most, kept, following};
-ghost use Rattle.desk_stream.specs.Step.{beginning, Holds, Takes, stepped, finished};
+ghost use Rattle.desk_lines.specs.Hand.{most};
+ghost use Rattle.desk_output.specs.Reading.{following};
+ghost use Rattle.desk_stream.specs.Step.{beginning, stepped, finished};
 use desk::OUT_NEED;
 use desk::ROOM_NEED;
 use desk::Table;
 use desk_line::Line;
-
-// How many bytes of a line are kept. A line above 256 is malformed, however long it is.
-pub const KEPT: usize = 257;
+use desk_lines::KEPT;
 
 // The table, the number of the line at hand, and how many of its bytes are kept.
 pub struct Stream {
     pub table: Table,
     pub number: u64,
-    pub kept: usize,
-}
-
-// Up to where a piece is read, and how many bytes of the line at hand are kept then.
-pub struct Taken {
-    pub read: usize,
     pub kept: usize,
 }
 
@@ -54,41 +46,6 @@ fn next_number(number: u64) -> u64
     number
 }
 
-// One byte more of the line at hand, where it is kept.
-fn with_byte(line: &mut [u8], n: usize, b: u8) -> usize
-    requires { ⌜ length (now line) ≡ most ⌝ }
-    ensures { λ r. ⌜ Holds (kept (take n (now (line .entry)) ++ b ∷ [])) (now (line .entry)) r (now (line .exit)) ⌝ }
-{
-    if KEPT <= n {
-        return KEPT;
-    }
-    line[n] = b;
-    n + 1
-}
-
-fn least(a: usize, b: usize) -> usize
-    ensures { λ r. ⌜ r ≡ min a b ⌝ }
-{
-    if a < b { a } else { b }
-}
-
-// The bytes of the piece from `from` on go to the line at hand, up to a newline or the end.
-fn take_line(line: &mut [u8], kept: usize, piece: &[u8], from: usize) -> Taken
-    requires { ⌜ length (now line) ≡ most ⌝ }
-    ensures { λ r. ⌜ Takes kept (now (piece .entry)) from (now (line .entry)) r (now (line .exit)) ⌝ }
-{
-    let mut n = least(kept, KEPT);
-    let mut at = from;
-    while at < piece.len() {
-        if piece[at] == b'\n' {
-            break;
-        }
-        n = with_byte(line, n, piece[at]);
-        at += 1;
-    }
-    Taken { read: at, kept: n }
-}
-
 // The line at hand: the first n bytes of its buffer.
 fn read_line(line: &[u8], n: usize) -> Line
     requires { ⌜ n ≤ length (now line) ⌝ }
@@ -111,11 +68,9 @@ fn step_in(
         ≡ stepped s (now (piece .entry)) from (now (line .entry)) (now (room .entry)) (now (out .entry)) ⌝ }
 {
     let table = s.table;
-    let t = take_line(line, s.kept, piece, from);
-    let end = t.read;
+    let t = desk_lines::take_line(line, s.kept, piece, from);
     let kept = t.kept;
-    if end < piece.len() {
-        let behind = end + 1;
+    if t.whole {
         let a = desk::answer(table, s.number, read_line(line, kept), room, out);
         let after = a.table;
         let stream = Stream {
@@ -125,7 +80,7 @@ fn step_in(
         };
         return Progress {
             stream: stream,
-            read: behind,
+            read: t.read,
             printed: a.printed,
         };
     }
@@ -136,7 +91,7 @@ fn step_in(
     };
     Progress {
         stream: stream,
-        read: end,
+        read: t.read,
         printed: 0,
     }
 }
@@ -163,8 +118,8 @@ fn finish_in(s: Stream, line: &[u8], room: &mut [f64], out: &mut [u8]) -> usize
         ≡ finished s (now (line .entry)) (now (room .entry)) (now (out .entry)) ⌝ }
 {
     let table = s.table;
-    let kept = least(s.kept, KEPT);
-    if 0 < kept {
+    let kept = desk_lines::within(s.kept);
+    if desk_lines::begun(kept) {
         let a = desk::answer(table, s.number, read_line(line, kept), room, out);
         return a.printed;
     }

@@ -41,5 +41,5 @@ pub step-in-spec : {M : Type 1} → statement M
 step-in-spec =
     tie.close
     (tie.spec
-    (λ c κs. search needs) (λ c. search needs) read-line-requires (λ c κs. search needs) (λ c κs. search needs)
+    (λ c κs. search needs) read-line-requires (λ c κs. search needs) (λ c κs. search needs)
     (λ c. search needs) (λ c. search needs) (λ c. search needs) returns (λ c. search needs) returns-2)

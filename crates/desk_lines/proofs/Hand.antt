@@ -1,5 +1,6 @@
 -- The line at hand in its buffer: one byte more, and the bytes of a piece up to a newline. Assumes nothing.
 use mathlib.Core.Path.{_≡_, refl, sym, ap, _∙_}
+use mathlib.Core.Bool.{Bool, true, false}
 use mathlib.Core.List.{List, [], _∷_, _++_, append-nil}
 use Prim.Native.Nat.{ℕ, suc, _+_, _-_, _≤_, _<_, min}
 use native.Mathlib.Numerals.{add-one}
@@ -10,10 +11,9 @@ use lib.ListN.{length, getD, take, drop, set, length-append, length-take, take-a
 use lib.Seq.{take-all, drop-length, length-take-le, take-append-seam, take-append-le, append-snoc, drop-cons, drop-drop, drop-append-add, set-split}
 use Rattle.rooms.specs.Laid.{over}
 use Rattle.rooms.proofs.Laws.{over-length}
-use Rattle.desk_output.specs.Lines.{newline}
-use Rattle.desk_output.specs.Reading.{most, kept}
-use Rattle.desk_stream.specs.Step.{before, handOf, Holds, Takes}
-use Rattle.desk_output.proofs.Kept.{kept-append, kept-whole}
+use Rattle.desk_lines.specs.Lines.{newline}
+use Rattle.desk_lines.specs.Hand.{most, kept, before, ends, first, handOf, Holds, Takes}
+use Rattle.desk_lines.proofs.Kept.{kept-append, kept-whole}
 
 -- ---- one byte more
 
@@ -38,17 +38,18 @@ module _ (line : List ℕ) (n b : ℕ) (full : length line ≡ most) where
 -- ---- the bytes of a piece
 
 module _ (piece : List ℕ) (at : ℕ) where
-  pub before-end : length piece ≤ at → before (drop at piece) ≡ []
-  unfolding before
-  before-end h = rw (drop-of-length-le piece h) refl
+  pub at-end : length piece ≤ at → (before (drop at piece) ≡ []) × (length (first (drop at piece)) ≡ 0) × (ends (drop at piece) ≡ false)
+  unfolding before first ends
+  at-end h = rw (drop-of-length-le piece h) (refl, refl, refl)
 
-  pub before-newline : at < length piece → getD piece at 0 ≡ newline → before (drop at piece) ≡ []
-  unfolding before
-  before-newline h e = rw (drop-cons piece at 0 h, eq-eqb (getD piece at 0) newline e) refl
+  pub at-newline : at < length piece → getD piece at 0 ≡ newline → (before (drop at piece) ≡ []) × (length (first (drop at piece)) ≡ 1) × (ends (drop at piece) ≡ true)
+  unfolding before first ends
+  at-newline h e = rw (drop-cons piece at 0 h, eq-eqb (getD piece at 0) newline e) (refl, refl, refl)
 
-  pub before-more : at < length piece → (getD piece at 0 ≡ newline → ⊥) → before (drop at piece) ≡ getD piece at 0 ∷ before (drop (at + 1) piece)
-  unfolding before
-  before-more h e = rw (drop-cons piece at 0 h, ne-eqb (getD piece at 0) newline e, add-one at) refl
+  at-byte : at < length piece → (getD piece at 0 ≡ newline → ⊥) → let b = getD piece at 0 in let rest = drop (at + 1) piece in
+      (before (drop at piece) ≡ b ∷ before rest) × (first (drop at piece) ≡ b ∷ first rest) × (ends (drop at piece) ≡ ends rest)
+  unfolding before first ends
+  at-byte h e = rw (drop-cons piece at 0 h, ne-eqb (getD piece at 0) newline e, add-one at) (refl, refl, refl)
 
 -- the buffer is written over from the start, further each time
 over-over : (xs ys lent : List ℕ) → length xs ≤ length ys → over ys (over xs lent) ≡ over ys lent
@@ -72,7 +73,8 @@ pub record Going (n₀ : ℕ) (piece : List ℕ) (from : ℕ) (line₀ : List �
   pub full : length line ≡ most
   pub few : n ≤ most
   pub hand : handOf n line (drop at piece) ≡ handOf n₀ line₀ (drop from piece)
-  pub read : at + length (before (drop at piece)) ≡ from + length (before (drop from piece))
+  pub read : at + length (first (drop at piece)) ≡ from + length (first (drop from piece))
+  pub whole : ends (drop at piece) ≡ ends (drop from piece)
   pub buffer : line ≡ over (take n line) line₀
 
 module _ (n₀ : ℕ) (piece : List ℕ) (from : ℕ) (line₀ : List ℕ) where
@@ -83,6 +85,7 @@ module _ (n₀ : ℕ) (piece : List ℕ) (from : ℕ) (line₀ : List ℕ) where
         few = omega arith;
         hand = ap (λ (l : List ℕ). kept (l ++ before (drop from piece))) (take-least n₀ n line₀ full e);
         read = refl;
+        whole = refl;
         buffer = sym (rw (length-take-le n line₀ (omega arith)) (take-append-drop n line₀));
       }
 
@@ -92,7 +95,7 @@ module _ (n₀ : ℕ) (piece : List ℕ) (from : ℕ) (line₀ : List ℕ) where
     going-more h e n' line' holds =
         let b = getD piece at 0 in
         let rest = before (drop (at + 1) piece) in
-        let more = before-more piece at h e in
+        let (more, further, same) = at-byte piece at h e in
         let longer = kept (take n line ++ b ∷ []) in
         let front : take n' line' ≡ longer = rw (holds .buffer, holds .count) (take-append-seam longer (drop (length longer) line)) in
         let wider : length (take n line) ≤ length longer = omega (arith, length-take n line, length-take most (take n line ++ b ∷ []), length-append (take n line) (b ∷ []), g .few) in
@@ -103,21 +106,21 @@ module _ (n₀ : ℕ) (piece : List ℕ) (from : ℕ) (line₀ : List ℕ) where
           hand =
               ap (λ (l : List ℕ). kept (l ++ rest)) front ∙ kept-append (take n line ++ b ∷ []) rest ∙ ap kept (append-snoc (take n line) b rest) ∙
               ap (λ (l : List ℕ). kept (take n line ++ l)) (sym more) ∙ g .hand;
-          read = next at (length rest) ∙ ap (λ (l : List ℕ). at + length l) (sym more) ∙ g .read;
+          read = next at (length (first (drop (at + 1) piece))) ∙ ap (λ (l : List ℕ). at + length l) (sym further) ∙ g .read;
+          whole = sym same ∙ g .whole;
           buffer = holds .buffer ∙ ap (over longer) (g .buffer) ∙ over-over (take n line) longer line₀ wider ∙ ap (λ (l : List ℕ). over l line₀) (sym front);
         }
       where
         next : (at k : ℕ) → at + 1 + k ≡ at + suc k
         next at k = omega arith
 
-    pub going-done : before (drop at piece) ≡ [] → Takes n₀ piece from line₀ (record { read = at; kept = n }) line
-    going-done e =
+    pub going-done : (read : ℕ) (whole : Bool) → before (drop at piece) ≡ [] → at + length (first (drop at piece)) ≡ read → ends (drop at piece) ≡ whole
+        → Takes n₀ piece from line₀ (record { read = read; kept = n; whole = whole }) line
+    going-done read whole e r w =
         let same : take n line ≡ handOf n₀ line₀ (drop from piece) =
         sym (kept-whole (take n line) (omega (arith, length-take n line, g .few))) ∙ ap kept (sym (append-nil (take n line))) ∙ ap (λ (l : List ℕ). kept (take n line ++ l)) (sym e) ∙ g .hand in
         record {
-          read = sym (ap (λ (l : List ℕ). at + length l) e ∙ none at) ∙ g .read;
+          read = sym r ∙ g .read;
+          whole = sym w ∙ g .whole;
           hand = rw (← same) (record { count = sym (length-take-le n line (omega (arith, g .few, g .full))); buffer = g .buffer });
         }
-      where
-        none : (at : ℕ) → at + 0 ≡ at
-        none at = omega arith

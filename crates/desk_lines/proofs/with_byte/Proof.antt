@@ -1,8 +1,8 @@
 -- `with_byte` keeps the byte, or the line as it is where it is full. Assumes nothing.
-use Rattle.desk_stream.proofs.Hand.{byte-past, byte-kept}
+use Rattle.desk_lines.proofs.Hand.{byte-past, byte-kept}
 use borrow.Author.Needs.{needs}
-use Rattle.desk_stream.proofs.with_byte.Statement.{statement}
-use Rattle.desk_stream.proofs.with_byte.Tie as tie
+use Rattle.desk_lines.proofs.with_byte.Statement.{statement}
+use Rattle.desk_lines.proofs.with_byte.Tie as tie
 
 returns : tie.Need-returns
 returns c = byte-past _ _ _ (c .before .pre) (c .if1 .taken)

@@ -2,32 +2,24 @@
 use mathlib.Core.Path.{_≡_, refl, sym, ap, _∙_}
 use mathlib.Core.Bool.{Bool, true, false, cond}
 use mathlib.Core.List.{List, [], _∷_, _++_}
-use Prim.Native.Nat.{ℕ, suc, _+_, _≤_, _<_}
-use native.Mathlib.Decide.{decLt}
+use Prim.Native.Nat.{ℕ, _+_, _≤_, _<_}
 use native.Mathlib.Omega.{arith}
-use borrow.Author.Tests.{eqb-true, lt-ltb, le-ltb}
-use lib.Dec.{eqb, ltb}
+use borrow.Author.Tests.{eqb-true}
+use lib.Dec.{eqb}
 use lib.ListN.{length, take, drop, length-append}
 use lib.Seq.{take-append-seam, take-add}
-use Rattle.desk_output.specs.Lines.{newline}
-use Rattle.desk_stream.specs.Step.{before, ends, first}
-
-ltb-suc : (a b : ℕ) → ltb (suc a) (suc b) ≡ ltb a b
-ltb-suc a b = elim (decLt a b) [
-  | yes h ↦ lt-ltb (suc a) (suc b) (omega arith) ∙ sym (lt-ltb a b h)
-  | no h ↦ le-ltb (suc a) (suc b) (omega arith) ∙ sym (le-ltb a b (omega arith))
-]
+use Rattle.desk_lines.specs.Lines.{newline}
+use Rattle.desk_lines.specs.Hand.{before, ends, first}
 
 pub first-before : (bytes : List ℕ) → first bytes ≡ cond (ends bytes) (before bytes ++ newline ∷ []) (before bytes)
-unfolding first before
+unfolding first before ends
 first-before [] = refl
 first-before (b ∷ bytes) = go (eqb b newline) refl (first-before bytes)
   where
     go : (e : Bool) → eqb b newline ≡ e → first bytes ≡ cond (ends bytes) (before bytes ++ newline ∷ []) (before bytes)
-        → b ∷ cond e [] (first bytes)
-        ≡ cond (ltb (length (cond e [] (b ∷ before bytes))) (suc (length bytes))) (cond e [] (b ∷ before bytes) ++ newline ∷ []) (cond e [] (b ∷ before bytes))
-    go true e more = rw (lt-ltb 0 (suc (length bytes)) (omega arith)) (ap (λ (x : ℕ). x ∷ []) (eqb-true b newline e))
-    go false e more = rw (ltb-suc (length (before bytes)) (length bytes)) (ap (λ (l : List ℕ). b ∷ l) more ∙ moved (ends bytes))
+        → b ∷ cond e [] (first bytes) ≡ cond (cond e true (ends bytes)) (cond e [] (b ∷ before bytes) ++ newline ∷ []) (cond e [] (b ∷ before bytes))
+    go true e more = ap (λ (x : ℕ). x ∷ []) (eqb-true b newline e)
+    go false e more = ap (λ (l : List ℕ). b ∷ l) more ∙ moved (ends bytes)
       where
         moved : (c : Bool) → b ∷ cond c (before bytes ++ newline ∷ []) (before bytes) ≡ cond c ((b ∷ before bytes) ++ newline ∷ []) (b ∷ before bytes)
         moved true = refl
