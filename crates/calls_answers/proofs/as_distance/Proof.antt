@@ -1,8 +1,8 @@
--- `calls_shapes::answers::as_distance` meets its contract. Assumes nothing.
+-- `calls_answers::as_distance` meets its contract. Assumes nothing.
 use mathlib.Core.Path.{refl}
 use borrow.Author.Tests.{ne-eqb}
-use Rattle.calls_shapes.proofs.answers.as_distance.Statement.{statement}
-use Rattle.calls_shapes.proofs.answers.as_distance.Tie as tie
+use Rattle.calls_answers.proofs.as_distance.Statement.{statement}
+use Rattle.calls_answers.proofs.as_distance.Tie as tie
 
 returns : tie.Need-returns
 returns c = rw (c .if1 .taken) refl

@@ -1,9 +1,9 @@
--- `calls_shapes::answers::as_fitted` meets its contract. Assumes nothing.
+-- `calls_answers::as_through` meets its contract. Assumes nothing.
 use mathlib.Core.Path.{refl}
 use borrow.Author.Tests.{ne-eqb}
 use borrow.Author.Needs.{needs}
-use Rattle.calls_shapes.proofs.answers.as_fitted.Statement.{statement}
-use Rattle.calls_shapes.proofs.answers.as_fitted.Tie as tie
+use Rattle.calls_answers.proofs.as_through.Statement.{statement}
+use Rattle.calls_answers.proofs.as_through.Tie as tie
 
 returns : tie.Need-returns
 returns c = rw (c .before .before .before .if1 .taken, c .before .c .given .1) refl
@@ -14,6 +14,6 @@ returns-2 c = rw (c .before .before .if1 .taken, c .enum-told .given .1) refl
 returns-3 : tie.Need-returns-3
 returns-3 c = rw (ne-eqb _ _ (c .if1 .left)) refl
 
-pub as-fitted-spec : {M : Type 1} → statement M
-as-fitted-spec =
+pub as-through-spec : {M : Type 1} → statement M
+as-through-spec =
     tie.close (tie.spec (λ c. search needs) (λ c. search needs) returns returns-2 returns-3)

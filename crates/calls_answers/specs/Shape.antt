@@ -18,16 +18,16 @@ use Rattle.earc_fit.specs.declared.Fit.{Fit}
 use Rattle.earc_fit.specs.declared.Fit.the-variants as fit
 use Rattle.checks.specs.Refusal.{accepted, degenerate}
 use Rattle.checks.specs.Answer.{Answer, refused}
-use Rattle.calls_shapes.specs.declared.answers.Distance.{Distance}
-use Rattle.calls_shapes.specs.declared.answers.Distance.the-variants as distance
-use Rattle.calls_shapes.specs.declared.answers.Center.{Center}
-use Rattle.calls_shapes.specs.declared.answers.Center.the-variants as center
-use Rattle.calls_shapes.specs.declared.answers.Through.{Through}
-use Rattle.calls_shapes.specs.declared.answers.Through.the-variants as through
-use Rattle.calls_shapes.specs.declared.answers.Tangent.{Tangent}
-use Rattle.calls_shapes.specs.declared.answers.Tangent.the-variants as tangent
-use Rattle.calls_shapes.specs.declared.answers.FittedArc.{FittedArc}
-use Rattle.calls_shapes.specs.declared.answers.FittedArc.the-variants as fittedArc
+use Rattle.calls_answers.specs.declared.Distance.{Distance}
+use Rattle.calls_answers.specs.declared.Distance.the-variants as distance
+use Rattle.calls_answers.specs.declared.Center.{Center}
+use Rattle.calls_answers.specs.declared.Center.the-variants as center
+use Rattle.calls_answers.specs.declared.Through.{Through}
+use Rattle.calls_answers.specs.declared.Through.the-variants as through
+use Rattle.calls_answers.specs.declared.Tangent.{Tangent}
+use Rattle.calls_answers.specs.declared.Tangent.the-variants as tangent
+use Rattle.calls_answers.specs.declared.FittedArc.{FittedArc}
+use Rattle.calls_answers.specs.declared.FittedArc.the-variants as fittedArc
 
 abbrev pub mark : Bool → ℕ
 mark b = cond b 1 0

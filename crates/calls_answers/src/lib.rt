@@ -1,7 +1,7 @@
-// What the calls answer. specs/Shape.antt says the number and the values of each case.
+// What the calls of parts 7 to 9 answer: what a layer found, or a refusal. specs/Shape.antt says the number and the values of each case.
 ghost use mathlib.Core.Path.{_≡_};
 ghost use Rattle.checks.specs.Answer.{withheld};
-ghost use Rattle.calls_shapes.specs.Shape.{nearTold, distanceTold, conversionTold, centerTold, threePointTold, throughTold, tangentCircleTold, tangentTold, fitTold, fittedTold};
+ghost use Rattle.calls_answers.specs.Shape.{nearTold, distanceTold, conversionTold, centerTold, threePointTold, throughTold, tangentCircleTold, tangentTold, fitTold, fittedTold};
 use checks::DEGENERATE;
 use construct::Circle;
 use construct::Circumscribed;
