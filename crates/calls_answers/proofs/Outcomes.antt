@@ -6,11 +6,11 @@ use native.Mathlib.Omega.{arith}
 use lib.Dec.{eqb}
 use lib.ListN.{length, take, getD}
 use lib.Ieee.{Float, nan}
-use Rattle.nearest.specs.declared.Near.{Near}
-use Rattle.construct.specs.declared.Converted.{Converted}
-use Rattle.construct.specs.declared.Circumscribed.{Circumscribed}
-use Rattle.construct.specs.declared.Circle.{Circle}
-use Rattle.earc_fit.specs.declared.Fitted.{Fitted}
+use Rattle.shapes.specs.declared.Near.{Near}
+use Rattle.shapes.specs.declared.Converted.{Converted}
+use Rattle.shapes.specs.declared.Circumscribed.{Circumscribed}
+use Rattle.shapes.specs.declared.Circle.{Circle}
+use Rattle.shapes.specs.declared.Fitted.{Fitted}
 use Rattle.checks.specs.Answer.{Answer, refused}
 use Rattle.calls_answers.specs.declared.Distance.{Distance}
 use Rattle.calls_answers.specs.declared.Distance.the-variants as distance

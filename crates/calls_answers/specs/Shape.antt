@@ -3,19 +3,19 @@
 use Prim.Native.Nat.{ℕ}
 use mathlib.Core.Bool.{Bool, cond}
 use mathlib.Core.List.{List, [], _∷_}
-use Rattle.nearest.specs.declared.Near.{Near}
-use Rattle.construct.specs.declared.Converted.{Converted}
-use Rattle.construct.specs.declared.Conversion.{Conversion}
-use Rattle.construct.specs.declared.Conversion.the-variants as conversion
-use Rattle.construct.specs.declared.Circumscribed.{Circumscribed}
-use Rattle.construct.specs.declared.ThreePoint.{ThreePoint}
-use Rattle.construct.specs.declared.ThreePoint.the-variants as threePoint
-use Rattle.construct.specs.declared.Circle.{Circle}
-use Rattle.construct.specs.declared.TangentCircle.{TangentCircle}
-use Rattle.construct.specs.declared.TangentCircle.the-variants as tangentCircle
-use Rattle.earc_fit.specs.declared.Fitted.{Fitted}
-use Rattle.earc_fit.specs.declared.Fit.{Fit}
-use Rattle.earc_fit.specs.declared.Fit.the-variants as fit
+use Rattle.shapes.specs.declared.Near.{Near}
+use Rattle.shapes.specs.declared.Converted.{Converted}
+use Rattle.shapes.specs.declared.Conversion.{Conversion}
+use Rattle.shapes.specs.declared.Conversion.the-variants as conversion
+use Rattle.shapes.specs.declared.Circumscribed.{Circumscribed}
+use Rattle.shapes.specs.declared.ThreePoint.{ThreePoint}
+use Rattle.shapes.specs.declared.ThreePoint.the-variants as threePoint
+use Rattle.shapes.specs.declared.Circle.{Circle}
+use Rattle.shapes.specs.declared.TangentCircle.{TangentCircle}
+use Rattle.shapes.specs.declared.TangentCircle.the-variants as tangentCircle
+use Rattle.shapes.specs.declared.Fitted.{Fitted}
+use Rattle.shapes.specs.declared.Fit.{Fit}
+use Rattle.shapes.specs.declared.Fit.the-variants as fit
 use Rattle.checks.specs.Refusal.{accepted, degenerate}
 use Rattle.checks.specs.Answer.{Answer, refused}
 use Rattle.calls_answers.specs.declared.Distance.{Distance}

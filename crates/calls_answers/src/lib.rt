@@ -3,15 +3,15 @@ ghost use mathlib.Core.Path.{_≡_};
 ghost use Rattle.checks.specs.Answer.{withheld};
 ghost use Rattle.calls_answers.specs.Shape.{nearTold, distanceTold, conversionTold, centerTold, threePointTold, throughTold, tangentCircleTold, tangentTold, fitTold, fittedTold};
 use checks::DEGENERATE;
-use construct::Circle;
-use construct::Circumscribed;
-use construct::Conversion;
-use construct::Converted;
-use construct::TangentCircle;
-use construct::ThreePoint;
-use earc_fit::Fit;
-use earc_fit::Fitted;
-use nearest::Near;
+use shapes::Circle;
+use shapes::Circumscribed;
+use shapes::Conversion;
+use shapes::Converted;
+use shapes::Fit;
+use shapes::Fitted;
+use shapes::Near;
+use shapes::TangentCircle;
+use shapes::ThreePoint;
 
 // A distance and the point of the curve that has it.
 pub enum Distance {
