@@ -13,7 +13,7 @@ use Rattle.earc_fit.specs.Fit.{fitEarcTangent}
 use Rattle.checks.specs.Given.{Given, coordinate, angle, point, arcNumbers}
 use Rattle.checks.specs.Refusal.{numbersRefusal}
 use Rattle.checks.specs.Answer.{Answer, answered, withheld}
-use Rattle.calls_shapes.specs.Shape.{nearTold, conversionTold, threePointTold, tangentCircleTold, fitTold}
+use Rattle.calls_answers.specs.Shape.{nearTold, conversionTold, threePointTold, tangentCircleTold, fitTold}
 
 -- what is found, where the call's numbers are in order: it has neither depth nor room
 abbrev pub found : List Given → Answer → Answer

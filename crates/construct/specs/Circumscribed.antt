@@ -8,8 +8,8 @@ use Rattle.laws.specs.Size.{abs}
 use Rattle.arctan.specs.Rule.{arctangent}
 use Rattle.curves.specs.declared.Point.{Point}
 use Rattle.arc.specs.Span.{normTau}
-use Rattle.construct.specs.declared.ThreePoint.{ThreePoint}
-use Rattle.construct.specs.declared.ThreePoint.the-variants.{Is, Degenerate}
+use Rattle.shapes.specs.declared.ThreePoint.{ThreePoint}
+use Rattle.shapes.specs.declared.ThreePoint.the-variants.{Is, Degenerate}
 use Rattle.root.specs.Norm.{norm}
 
 -- `(ay - uy).atan2(ax - ux)`: the angle of p as seen from u

@@ -6,9 +6,9 @@ use Rattle.laws.specs.Rounded.{_⊕_}
 use Rattle.sine.specs.Rule.{sine, cosine}
 use Rattle.curves.specs.declared.Point.{Point}
 use Rattle.curves.specs.declared.Radii.{Radii}
-use Rattle.construct.specs.declared.Converted.{Converted}
-use Rattle.construct.specs.declared.Conversion.{Conversion}
-use Rattle.construct.specs.declared.Conversion.the-variants.{Is, Degenerate}
+use Rattle.shapes.specs.declared.Converted.{Converted}
+use Rattle.shapes.specs.declared.Conversion.{Conversion}
+use Rattle.shapes.specs.declared.Conversion.the-variants.{Is, Degenerate}
 use Rattle.construct.specs.OutOfRange.{identical, positive, straight, lambda, enlarged}
 use Rattle.construct.specs.Svg.{primed, primedCenter, turnedBack, angle, scaled, startAngle, swept}
 

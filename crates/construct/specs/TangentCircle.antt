@@ -6,8 +6,8 @@ use Rattle.laws.specs.Rounded.{_⊕_, _⊖_, _⊗_, _⊘_}
 use Rattle.laws.specs.Literal.{two, ten⁻¹²}
 use Rattle.laws.specs.Size.{abs}
 use Rattle.curves.specs.declared.Point.{Point}
-use Rattle.construct.specs.declared.TangentCircle.{TangentCircle}
-use Rattle.construct.specs.declared.TangentCircle.the-variants.{Is, Degenerate}
+use Rattle.shapes.specs.declared.TangentCircle.{TangentCircle}
+use Rattle.shapes.specs.declared.TangentCircle.the-variants.{Is, Degenerate}
 use Rattle.root.specs.Norm.{norm}
 
 -- None for a tangent without direction, then None for an end on the tangent

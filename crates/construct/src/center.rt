@@ -1,11 +1,11 @@
 // An SVG arc, given by its ends, as an arc about its center.
 ghost use mathlib.Core.Path.{_≡_};
 ghost use Rattle.construct.specs.Conversion.{aboutCenter, svgArcToCenter};
-use crate::Conversion;
-use crate::Converted;
 use crate::svg;
 use curves::Point;
 use curves::Radii;
+use shapes::Conversion;
+use shapes::Converted;
 
 // The steps after the tests, with radii that are not negative.
 fn about_center(

@@ -1,9 +1,9 @@
 // The circle through two points with a given tangent at the first.
 ghost use mathlib.Core.Path.{_≡_};
 ghost use Rattle.construct.specs.TangentCircle.{circleTangentThrough};
-use crate::Circle;
-use crate::TangentCircle;
 use curves::Point;
+use shapes::Circle;
+use shapes::TangentCircle;
 
 pub fn circle_tangent_through(s: Point, e: Point, t: Point) -> TangentCircle
     ensures { λ r. ⌜ r ≡ circleTangentThrough s e t ⌝ }

@@ -1,9 +1,9 @@
 // The arc through three points.
 ghost use mathlib.Core.Path.{_≡_};
 ghost use Rattle.construct.specs.Circumscribed.{bearing, circumcenter, circumscribedArc};
-use crate::Circumscribed;
-use crate::ThreePoint;
 use curves::Point;
+use shapes::Circumscribed;
+use shapes::ThreePoint;
 
 // The angle at which p is seen from the center.
 fn bearing(center: Point, p: Point) -> f64

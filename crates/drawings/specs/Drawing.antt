@@ -15,7 +15,7 @@ use Rattle.checks.specs.Answer.{Answer}
 use Rattle.curves.specs.declared.Curve.{Curve}
 use Rattle.curves.specs.declared.Curve.the-variants as curve
 use Rattle.calls_curves.specs.Curves.{curvesOutcome}
-use Rattle.calls_shapes.specs.Shape.{threePointTold, tangentCircleTold}
+use Rattle.calls_answers.specs.Shape.{threePointTold, tangentCircleTold}
 
 pub data Call : Type 0 where
   cross : Curve → Curve → Call

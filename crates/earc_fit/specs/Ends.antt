@@ -10,7 +10,7 @@ use Rattle.arctan.specs.Rule.{arctangent}
 use Rattle.curves.specs.declared.Point.{Point}
 use Rattle.curves.specs.declared.Radii.{Radii}
 use Rattle.arc.specs.Ellipse.{ellipseTangent}
-use Rattle.earc_fit.specs.declared.Fitted.{Fitted}
+use Rattle.shapes.specs.declared.Fitted.{Fitted}
 use Rattle.conics.specs.declared.axes.Squares.{Squares}
 
 -- sr and cr are the rotation's sine and cosine

@@ -6,8 +6,8 @@ use lib.Ieee.{Float, lt, le}
 use Rattle.laws.specs.Literal.{ten⁻¹²}
 use Rattle.laws.specs.Size.{abs}
 use Rattle.curves.specs.declared.Point.{Point}
-use Rattle.earc_fit.specs.declared.Fit.{Fit}
-use Rattle.earc_fit.specs.declared.Fit.the-variants.{Is, Degenerate}
+use Rattle.shapes.specs.declared.Fit.{Fit}
+use Rattle.shapes.specs.declared.Fit.the-variants.{Is, Degenerate}
 use Rattle.conics.specs.declared.conic.Conic.{Conic}
 use Rattle.root.specs.Norm.{norm}
 use Rattle.conics.specs.Lines.{_!_, lineThrough, normalized, lineValue}

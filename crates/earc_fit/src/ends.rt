@@ -1,10 +1,10 @@
 // The arc of the ellipse: its two angles and its direction.
 ghost use mathlib.Core.Path.{_≡_};
 ghost use Rattle.earc_fit.specs.Ends.{parametric, agrees, fittedArc};
-use crate::Fitted;
 use conics::axes::Squares;
 use curves::Point;
 use curves::Radii;
+use shapes::Fitted;
 use sine::SinCos;
 
 fn parametric(p: Point, center: Point, r: Radii, rot: SinCos) -> f64

@@ -9,22 +9,7 @@ use conics::conic;
 use conics::conic::Conic;
 use conics::lines;
 use curves::Point;
-
-pub struct Fitted {
-    pub center: Point,
-    pub rx: f64,
-    pub ry: f64,
-    pub rotation: f64,
-    pub start: f64,
-    pub end: f64,
-    pub ccw: bool,
-}
-
-// Degenerate is 001's `None`.
-pub enum Fit {
-    Is(Fitted),
-    Degenerate,
-}
+use shapes::Fit;
 
 // The arc on the conic q from p1, where it runs along t1, to p2.
 fn conic_arc(p1: Point, t1: Point, p2: Point, q: Conic) -> Fit

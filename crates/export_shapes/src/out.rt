@@ -1,6 +1,6 @@
 // What the calls of distances, arcs and circles answer, as numbers in a lent slice: one function an answer.
 ghost use mathlib.Core.Path.{_≡_};
-ghost use Rattle.calls_shapes.specs.Shape.{mark, distanceTold, centerTold, throughTold, tangentTold, fittedTold};
+ghost use Rattle.calls_answers.specs.Shape.{mark, distanceTold, centerTold, throughTold, tangentTold, fittedTold};
 ghost use Rattle.export_numbers.specs.Exported.{NumbersOut};
 use calls_shapes::Center;
 use calls_shapes::Distance;

@@ -1,10 +1,14 @@
 // The drawings and limits of document 01 that are run: one line a case. stdout has the lines that are right.
+mod copying;
+
+ghost use Prim.Native.Nat.{_≤_};
 use arcs::Curve;
 use arcs::Found;
 use arcs::Hunted;
 use arcs::Number;
 use curves::Arc;
 use curves::Point;
+use hits::CurveHit;
 use hits::HIT;
 use libc::STDOUT_FILENO;
 
@@ -224,9 +228,58 @@ fn run_full_rooms() {
     );
 }
 
+fn print_bits(x: f64) {
+    print(b" ");
+    io::print_hex(STDOUT_FILENO, scalar::to_bits(x), 16);
+}
+
+// t_a, t_b, x and y, each as the 16 hex digits of its bits.
+fn print_hit(words: &[u8], h: CurveHit) {
+    print(words);
+    print_bits(h.t_a);
+    print_bits(h.t_b);
+    print_bits(h.pos.x);
+    print_bits(h.pos.y);
+    print(b"\n");
+}
+
+// Whether a hit has the numbers that it should.
+fn print_held(words: &[u8], h: CurveHit, g: CurveHit) {
+    print(words);
+    if (h.t_a == g.t_a) & (h.t_b == g.t_b) & (h.pos.x == g.pos.x) & (h.pos.y == g.pos.y) {
+        return print(b"as it should be\n");
+    }
+    if (h.t_a != g.t_a) & (h.t_b != g.t_b) & (h.pos.x != g.pos.x) & (h.pos.y != g.pos.y) {
+        return print(b"wrong in all four numbers\n");
+    }
+    print(b"wrong in some number\n");
+}
+
+// The hits of a pair, and those of the build that copies the first bracket, held against them.
+fn run_copying(words: &[u8], a: Arc, b: Arc, depth: u32)
+    requires { ⌜ depth ≤ 3 ⌝ }
+{
+    let mut room = [0.0; DEPTH_3];
+    let mut copies = [0.0; DEPTH_3];
+    print_hunted(words, arcs::intersect_arcs(a, b, depth, &mut room));
+    let first = hits::hit_at(&room, 0);
+    let second = hits::hit_at(&room, 1);
+    print_hit(b"hit 1:", first);
+    print_hit(b"hit 2:", second);
+    let t = copying::hunt(a, b, depth, &mut copies);
+    print_hunted(b"by copying the first bracket: ", Hunted::Counts(t));
+    print_held(b"hit 1: ", first, hits::hit_at(&copies, 0));
+    print_held(b"hit 2: ", second, hits::hit_at(&copies, 1));
+}
+
 fn main() {
     run_limits();
     run_rooms();
     run_gasket();
     run_full_rooms();
+    run_copying(b"P10, depth 1: ", flange(), hole(), 1);
+    run_copying(b"swapped, depth 0: ", hole(), flange(), 0);
+    run_copying(b"swapped, depth 1: ", hole(), flange(), 1);
+    run_copying(b"swapped, depth 2: ", hole(), flange(), 2);
+    run_copying(b"swapped, depth 3: ", hole(), flange(), 3);
 }

@@ -3,7 +3,7 @@ use mathlib.Core.Bool.{cond}
 use Rattle.laws.specs.Rounded.{_⊖_}
 use Rattle.curves.specs.declared.Point.{Point}
 use Rattle.curves.specs.declared.Arc.{Arc}
-use Rattle.nearest.specs.declared.Near.{Near}
+use Rattle.shapes.specs.declared.Near.{Near}
 use Rattle.nearest.specs.EllipseDist.{pointToEllipseDist}
 use Rattle.nearest.specs.CircleDist.{wholeDist, partDist}
 

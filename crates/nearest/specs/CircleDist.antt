@@ -13,7 +13,7 @@ use Rattle.curves.specs.declared.Arc.{Arc}
 use Rattle.arc.specs.ArcPoint.{arcStartPos, arcEndPos}
 use Rattle.arc.specs.Span.{normTau}
 use Rattle.segments.specs.Project.{distance}
-use Rattle.nearest.specs.declared.Near.{Near}
+use Rattle.shapes.specs.declared.Near.{Near}
 
 -- `((dist_to_center - r).abs(), proj)`, d being the distance to the center
 unfoldable pub onRay : Arc → Float → Float → Float → Near

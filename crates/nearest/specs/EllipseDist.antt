@@ -9,7 +9,7 @@ use Rattle.curves.specs.declared.Point.{Point}
 use Rattle.curves.specs.declared.Arc.{Arc}
 use Rattle.arc.specs.ArcPoint.{arcPointAt, arcStartPos, arcEndPos}
 use Rattle.segments.specs.Project.{distance}
-use Rattle.nearest.specs.declared.Near.{Near}
+use Rattle.shapes.specs.declared.Near.{Near}
 use Rattle.nearest.specs.Samples.{bestOf}
 use Rattle.nearest.specs.Newton.{newton}
 

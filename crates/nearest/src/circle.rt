@@ -1,10 +1,10 @@
 // The distance of a point from a circular arc. The point stands at (dx, dy) from the center.
 ghost use mathlib.Core.Path.{_≡_};
 ghost use Rattle.nearest.specs.CircleDist.{onRay, wholeDist, inRange, endDist, partDist};
-use crate::Near;
 use crate::points;
 use curves::Arc;
 use curves::Point;
+use shapes::Near;
 
 // The circle's point in the direction of a point that is d from the center.
 fn on_ray(a: Arc, dx: f64, dy: f64, d: f64) -> Near

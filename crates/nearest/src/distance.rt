@@ -1,11 +1,11 @@
 // The distance of a point from an arc.
 ghost use mathlib.Core.Path.{_≡_};
 ghost use Rattle.nearest.specs.ArcDist.{pointToArcDist};
-use crate::Near;
 use crate::circle;
 use crate::ellipse;
 use curves::Arc;
 use curves::Point;
+use shapes::Near;
 
 pub fn point_to_arc_dist(p: Point, a: Arc) -> Near
     ensures { λ r. ⌜ r ≡ pointToArcDist p a ⌝ }

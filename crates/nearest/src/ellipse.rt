@@ -1,13 +1,13 @@
 // The distance of a point from an ellipse's arc: samples, Newton's steps, the two ends.
 ghost use mathlib.Core.Path.{_≡_};
 ghost use Rattle.nearest.specs.EllipseDist.{nearestOf, span, pointToEllipseDist};
-use crate::Near;
 use crate::newton;
 use crate::points;
 use crate::samples;
 use curves::Arc;
 use curves::Point;
 use scalar::TAU;
+use shapes::Near;
 
 // An end is taken only where it is strictly nearer.
 fn nearest_of(p: Point, sp: Point, ep: Point, nearest: Point) -> Near

@@ -8,12 +8,5 @@ mod points;
 mod samples;
 mod thirds;
 
-use curves::Point;
 pub use distance::point_to_arc_dist;
 pub use param::nearest_arc_param;
-
-// A distance and the point of the curve that has it.
-pub struct Near {
-    pub dist: f64,
-    pub pos: Point,
-}

@@ -1,6 +1,6 @@
 -- `export_shapes::out::write_fitted` meets its contract. Assumes nothing.
 use mathlib.Core.Path.{ap}
-use Rattle.calls_shapes.specs.Shape.{fittedTold}
+use Rattle.calls_answers.specs.Shape.{fittedTold}
 use Rattle.export_numbers.proofs.Written.{marked-out, refused-out}
 use borrow.Author.Needs.{needs}
 use Rattle.export_shapes.proofs.out.write_fitted.Statement.{statement}

@@ -1,6 +1,6 @@
 -- `export_shapes::out::write_tangent` meets its contract. Assumes nothing.
 use mathlib.Core.Path.{ap}
-use Rattle.calls_shapes.specs.Shape.{tangentTold}
+use Rattle.calls_answers.specs.Shape.{tangentTold}
 use Rattle.export_numbers.proofs.Written.{numbers-out, refused-out}
 use borrow.Author.Needs.{needs}
 use Rattle.export_shapes.proofs.out.write_tangent.Statement.{statement}

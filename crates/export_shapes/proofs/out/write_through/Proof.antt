@@ -1,6 +1,6 @@
 -- `export_shapes::out::write_through` meets its contract. Assumes nothing.
 use mathlib.Core.Path.{ap}
-use Rattle.calls_shapes.specs.Shape.{throughTold}
+use Rattle.calls_answers.specs.Shape.{throughTold}
 use Rattle.export_numbers.proofs.Written.{marked-out, refused-out}
 use borrow.Author.Needs.{needs}
 use Rattle.export_shapes.proofs.out.write_through.Statement.{statement}

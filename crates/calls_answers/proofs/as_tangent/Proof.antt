@@ -1,0 +1,19 @@
+-- `calls_answers::as_tangent` meets its contract. Assumes nothing.
+use mathlib.Core.Path.{refl}
+use borrow.Author.Tests.{ne-eqb}
+use borrow.Author.Needs.{needs}
+use Rattle.calls_answers.proofs.as_tangent.Statement.{statement}
+use Rattle.calls_answers.proofs.as_tangent.Tie as tie
+
+returns : tie.Need-returns
+returns c = rw (c .before .before .before .if1 .taken, c .before .c .given .1) refl
+
+returns-2 : tie.Need-returns-2
+returns-2 c = rw (c .before .before .if1 .taken, c .enum-told .given .1) refl
+
+returns-3 : tie.Need-returns-3
+returns-3 c = rw (ne-eqb _ _ (c .if1 .left)) refl
+
+pub as-tangent-spec : {M : Type 1} → statement M
+as-tangent-spec =
+    tie.close (tie.spec (λ c. search needs) (λ c. search needs) returns returns-2 returns-3)
