@@ -64,17 +64,20 @@ fn conversion_rows() -> Vec<Row> {
     // `(p1.x - p2.x).abs() < 1e-12 && (p1.y - p2.y).abs() < 1e-12`: each decides where the other holds.
     for sign in [1.0, -1.0] {
         let (from, to) = (sign * 1e-13, sign * 1e-11);
-        edges.push(edge(words([from, 0.0, 0.0, 0.0, 1.0, 2.0, 0.0], [0, 1]), 0, from, to, |w| ((real(w, 0) - real(w, 2)).abs(), 1e-12), None));
-        edges.push(edge(words([0.0, from, 0.0, 0.0, 1.0, 2.0, 0.0], [0, 1]), 1, from, to, |w| ((real(w, 1) - real(w, 3)).abs(), 1e-12), None));
+        edges.push(edge(words([from, 0.0, 0.0, 0.0, 1.0, 2.0, 0.0], [0, 1]), 0, from, to, |w| ((real(w, 0) - real(w, 2)).abs(), 1e-12), &[]));
+        edges.push(edge(words([0.0, from, 0.0, 0.0, 1.0, 2.0, 0.0], [0, 1]), 1, from, to, |w| ((real(w, 1) - real(w, 3)).abs(), 1e-12), &[]));
         // `rx < 1e-12 || ry < 1e-12`, of the sizes.
-        edges.push(edge(words([1.0, 0.0, -1.0, 0.5, from, 1.0, 0.0], [0, 1]), 4, from, to, |w| (real(w, 4).abs(), 1e-12), None));
-        edges.push(edge(words([1.0, 0.0, -1.0, 0.5, 1.0, from, 0.0], [0, 1]), 5, from, to, |w| (real(w, 5).abs(), 1e-12), None));
+        edges.push(edge(words([1.0, 0.0, -1.0, 0.5, from, 1.0, 0.0], [0, 1]), 4, from, to, |w| (real(w, 4).abs(), 1e-12), &[]));
+        edges.push(edge(words([1.0, 0.0, -1.0, 0.5, 1.0, from, 0.0], [0, 1]), 5, from, to, |w| (real(w, 5).abs(), 1e-12), &[]));
     }
-    // `lambda > 1.0`. At 1 the radii are multiplied by 1, so that `>=` gives the same.
-    edges.push(edge(words([1.0, 0.0, -1.0, 0.0, 1.0, 1.0, 0.0], [0, 1]), 4, 0.9, 1.1, |w| (steps(w).lambda, 1.0), None));
+    // `lambda > 1.0`. At 1, and one unit above it, the radii are multiplied by 1, so that `>=` gives the same.
+    edges.push(edge(words([1.0, 0.0, -1.0, 0.0, 1.0, 1.0, 0.0], [0, 1]), 4, 0.9, 1.1, |w| (steps(w).lambda, 1.0), &[]));
     // `den.abs() < 1e-30`.
-    edges.push(edge(words([2e-10, 0.0, 0.0, 0.0, 1e-6, 1e-6, 0.0], [0, 1]), 0, 1e-10, 1e-8, |w| (steps(w).den.abs(), 1e-30), Some(5)));
+    edges.push(edge(words([2e-10, 0.0, 0.0, 0.0, 1e-6, 1e-6, 0.0], [0, 1]), 0, 1e-10, 1e-8, |w| (steps(w).den.abs(), 1e-30), &[5]));
     let mut rows: Vec<Row> = edges.into_iter().flat_map(Edge::rows).collect();
+    for less in [2e-16, 4e-16, 1e-15, 1e-13, 1e-10] {
+        rows.push(of(22, words([1.0, 0.0, -1.0, 0.0, 1.0 - less, 1.0, 0.0], [0, 1])));
+    }
     // `max(0.0)` of a numerator that rounding took below 0, and `clamp(-1.0, 1.0)` of a cosine past -1. The numerator is never -0.0,
     // as a difference of equal numbers is 0.0.
     let short = [1.0, 1.0, 0.5];
@@ -105,7 +108,7 @@ fn three_point_rows() -> Vec<Row> {
     let mut rows = Vec::new();
     for sign in [1.0, -1.0] {
         let words = reals([0.0, 0.0, 1.0, 0.0, 0.5, sign * 1e-13]).to_vec();
-        let edge = Edge { call: 23, words, moved: 5, from: sign * 1e-13, to: sign * 1e-11, sides: area, varied: None, equal: true };
+        let edge = Edge { call: 23, words, moved: 5, from: sign * 1e-13, to: sign * 1e-11, sides: area, varied: &[], equal: true };
         rows.extend(edge.rows());
     }
     // `mid_ccw < span_ccw`: the third point beside the second, seen at the same angle.
@@ -150,11 +153,11 @@ fn tangent_rows() -> Vec<Row> {
     };
     // `tl < 1e-12`, then `dn.abs() < 1e-12` of either sign.
     let edge = |words: [f64; 6], moved, from, to, sides, varied| Edge { call: 24, words: reals(words).to_vec(), moved, from, to, sides, varied, equal: true };
-    edges.push(edge([0.0, 0.0, 1.0, 1.0, 1e-13, 0.0], 4, 1e-13, 1e-11, length, Some(5)));
-    edges.push(edge([0.0, 0.0, 1.0, 1.0, 0.0, 1e-13], 5, 1e-13, 1e-11, length, Some(4)));
+    edges.push(edge([0.0, 0.0, 1.0, 1.0, 1e-13, 0.0], 4, 1e-13, 1e-11, length, &[5]));
+    edges.push(edge([0.0, 0.0, 1.0, 1.0, 0.0, 1e-13], 5, 1e-13, 1e-11, length, &[4]));
     for sign in [1.0, -1.0] {
-        edges.push(edge([0.0, 0.0, 1.0, sign * 1e-13, 1.0, 0.0], 3, sign * 1e-13, sign * 1e-11, normal, None));
-        edges.push(edge([0.0, 0.0, sign * 1e-13, 1.0, 0.0, 2.0], 2, sign * 1e-13, sign * 1e-11, normal, None));
+        edges.push(edge([0.0, 0.0, 1.0, sign * 1e-13, 1.0, 0.0], 3, sign * 1e-13, sign * 1e-11, normal, &[]));
+        edges.push(edge([0.0, 0.0, sign * 1e-13, 1.0, 0.0, 2.0], 2, sign * 1e-13, sign * 1e-11, normal, &[]));
     }
     edges.into_iter().flat_map(Edge::rows).collect()
 }

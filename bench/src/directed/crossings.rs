@@ -42,19 +42,19 @@ fn segment_rows() -> Vec<Row> {
     let ellipse = |a, b| arc([0.0, 0.0, a, b, 0.0, 0.0, 0.0], CCW | CLOSED | ELLIPSE);
     let radius = |w: &[u64]| (arc_radii(&bow(w, 4)).0, 1e-12);
     let radius_b = |w: &[u64]| (arc_radii(&bow(w, 4)).1, 1e-12);
-    edges.push(edge(across([-2e-12, 0.0, 2e-12, 0.0], ellipse(1.0, 1.0)), 6, 1e-13, 1e-11, radius, None, true));
-    edges.push(edge(across([0.0, -2e-12, 0.0, 2e-12], ellipse(1.0, 1.0)), 7, 1e-13, 1e-11, radius_b, None, true));
-    edges.push(edge(across([-2e-12, 0.0, 2e-12, 0.0], circle(0.0, 0.0, 1.0)), 6, 1e-13, 1e-11, radius, None, true));
+    edges.push(edge(across([-2e-12, 0.0, 2e-12, 0.0], ellipse(1.0, 1.0)), 6, 1e-13, 1e-11, radius, &[], true));
+    edges.push(edge(across([0.0, -2e-12, 0.0, 2e-12], ellipse(1.0, 1.0)), 7, 1e-13, 1e-11, radius_b, &[], true));
+    edges.push(edge(across([-2e-12, 0.0, 2e-12, 0.0], circle(0.0, 0.0, 1.0)), 6, 1e-13, 1e-11, radius, &[], true));
     // `qa < 1e-24`, of a segment that begins on the circle.
-    edges.push(edge(across([1.0, 0.0, 1.0, 1e-13], circle(0.0, 0.0, 1.0)), 3, 1e-13, 1e-11, |w| (qa(in_frame(w).1), 1e-24), Some(6), true));
+    edges.push(edge(across([1.0, 0.0, 1.0, 1e-13], circle(0.0, 0.0, 1.0)), 3, 1e-13, 1e-11, |w| (qa(in_frame(w).1), 1e-24), &[0, 2, 6], true));
     // `disc < 0.0`, of a line beside the circle.
-    edges.push(edge(across([-2.0, 1.0, 2.0, 1.0], circle(0.0, 0.0, 1.0)), 1, 0.5, 1.5, |w| (discriminant(w), 0.0), Some(3), true));
+    edges.push(edge(across([-2.0, 1.0, 2.0, 1.0], circle(0.0, 0.0, 1.0)), 1, 0.5, 1.5, |w| (discriminant(w), 0.0), &[3], true));
     // `sq > 1e-12`: one root or two, of a tangent of which rounding makes a secant.
     let touching = across([1.0, 5e-10, 1.0, -1e-3], circle(0.0, 0.0, 1.0));
-    edges.push(edge(touching, 1, 1e-10, 1e-9, |w| (discriminant(w).sqrt(), 1e-12), Some(3), true));
+    edges.push(edge(touching, 1, 1e-10, 1e-9, |w| (discriminant(w).sqrt(), 1e-12), &[3], true));
     // `-eps..=1.0 + eps` of a root, eps = 1e-9. The position has the clamped t.
-    edges.push(edge(across([1.0, 0.0, -1e6, 0.0], circle(0.0, 0.0, 1.0)), 0, 1.0, 0.99, |w| (smaller_root(w), -1e-9), Some(2), true));
-    edges.push(edge(across([3.0, 0.0, 1.0, 0.0], circle(0.0, 0.0, 1.0)), 2, 1.0, 1.01, |w| (smaller_root(w), 1.0 + 1e-9), Some(0), true));
+    edges.push(edge(across([1.0, 0.0, -1e6, 0.0], circle(0.0, 0.0, 1.0)), 0, 1.0, 0.99, |w| (smaller_root(w), -1e-9), &[2], true));
+    edges.push(edge(across([3.0, 0.0, 1.0, 0.0], circle(0.0, 0.0, 1.0)), 2, 1.0, 1.01, |w| (smaller_root(w), 1.0 + 1e-9), &[0], true));
     let mut rows: Vec<Row> = edges.into_iter().flat_map(Edge::rows).collect();
     // The slack of the arc's span, at its end and not at its start, and both directions.
     for (offset, marks) in [-5e-10, 5e-10, 0.9e-9, 1.1e-9, 1.5e-9].iter().flat_map(|&o| [(o, CCW), (o, 0), (o, CCW | ELLIPSE)]) {
@@ -86,15 +86,15 @@ fn circles_rows() -> Vec<Row> {
     let pair = |a: [u64; 8], b: [u64; 8]| [&a[..], &b, &[0, 8]].concat();
     let edge = |words, moved, from, to, sides, varied| Edge { call: 17, words, moved, from, to, sides, varied, equal: true };
     // `d < 1e-12`.
-    edges.push(edge(pair(circle(0.0, 0.0, 1.0), circle(1e-13, 0.0, 1.0)), 8, 1e-13, 1e-11, |w| (apart(w).0, 1e-12), Some(9)));
+    edges.push(edge(pair(circle(0.0, 0.0, 1.0), circle(1e-13, 0.0, 1.0)), 8, 1e-13, 1e-11, |w| (apart(w).0, 1e-12), &[9]));
     // `d > r1 + r2 + tol`, then `d < (r1 - r2).abs() - tol` with either circle the larger.
     let outside = |w: &[u64]| { let (d, r1, r2, tol) = apart(w); (r1 + r2 + tol, d) };
     let inside = |w: &[u64]| { let (d, r1, r2, tol) = apart(w); (d, (r1 - r2).abs() - tol) };
-    edges.push(edge(pair(circle(0.0, 0.0, 2.0), circle(3.0, 0.0, 1.0)), 8, 3.0, 3.1, outside, Some(2)));
-    edges.push(edge(pair(circle(0.0, 0.0, 2.0), circle(1.0, 0.0, 1.0)), 8, 0.9, 1.0, inside, Some(2)));
-    edges.push(edge(pair(circle(0.0, 0.0, 1.0), circle(1.0, 0.0, 2.0)), 8, 0.9, 1.0, inside, Some(2)));
+    edges.push(edge(pair(circle(0.0, 0.0, 2.0), circle(3.0, 0.0, 1.0)), 8, 3.0, 3.1, outside, &[2]));
+    edges.push(edge(pair(circle(0.0, 0.0, 2.0), circle(1.0, 0.0, 1.0)), 8, 0.9, 1.0, inside, &[2]));
+    edges.push(edge(pair(circle(0.0, 0.0, 1.0), circle(1.0, 0.0, 2.0)), 8, 0.9, 1.0, inside, &[2]));
     // `h < tol`: one candidate or two, of a circle as small as the tolerance.
-    edges.push(edge(pair(circle(0.0, 0.0, 2e-9), circle(1.0, 0.0, 1.0)), 2, 1e-9, 1e-8, |w| (half_chord(w), apart(w).3), Some(10)));
+    edges.push(edge(pair(circle(0.0, 0.0, 2e-9), circle(1.0, 0.0, 1.0)), 2, 1e-9, 1e-8, |w| (half_chord(w), apart(w).3), &[10]));
     let mut rows: Vec<Row> = edges.into_iter().flat_map(Edge::rows).collect();
     // `h2 > 0.0`: below 0 by rounding. At 0 the root is 0 too, so that `>=` gives the same.
     for nudge in [0.0, 1e-9, -1e-9, 2e-9, -2e-9] {

@@ -47,7 +47,7 @@ fn parameter(x: f64, y: f64, a: [u64; 8]) -> Row {
 
 fn circle_rows() -> Vec<Row> {
     let mut edges = Vec::new();
-    let edge = |words, moved, from, to, sides| Edge { call: 20, words, moved, from, to, sides, varied: Some(0), equal: true };
+    let edge = |words, moved, from, to, sides| Edge { call: 20, words, moved, from, to, sides, varied: &[0], equal: true };
     // `dist_to_center < 1e-12` of a whole circle and of an arc.
     for marks in [CCW | CLOSED, CCW] {
         let words = distance(3e-13, 1e-13, arc([0.0, 0.0, 1e-9, 1e-9, 0.0, 0.0, 3.0], marks)).words;
@@ -56,7 +56,7 @@ fn circle_rows() -> Vec<Row> {
     // `a_norm <= span` in both directions.
     for (end, marks) in [(FRAC_PI_2, CCW), (-FRAC_PI_2, 0)] {
         let words = distance(0.0, if marks & CCW != 0 { 2.0 } else { -2.0 }, arc([0.0, 0.0, 1.0, 1.0, 0.0, 0.0, end], marks)).words;
-        edges.push(Edge { call: 20, words, moved: 8, from: end * 0.9, to: end * 1.1, sides: in_range, varied: None, equal: true });
+        edges.push(Edge { call: 20, words, moved: 8, from: end * 0.9, to: end * 1.1, sides: in_range, varied: &[], equal: true });
     }
     let mut rows: Vec<Row> = edges.into_iter().flat_map(Edge::rows).collect();
     for marks in [CCW, 0] {
@@ -86,9 +86,9 @@ fn circle_rows() -> Vec<Row> {
 }
 
 fn ellipse_rows() -> Vec<Row> {
-    // `df.abs() < 1e-20`. Equal sides would need the rounded sum of three quotients to be that very number; none was found.
-    let tiny = distance(3e-11, 1e-11, arc([0.0, 0.0, 1e-10, 2e-11, 0.0, 0.0, 0.0], CCW | CLOSED | ELLIPSE)).words;
-    let edge = Edge { call: 20, words: tiny, moved: 4, from: 1e-12, to: 1e-9, sides: bend, varied: Some(5), equal: false };
+    // `df.abs() < 1e-20`, of a point beside the start of an ellipse as small: there only its second radius counts.
+    let tiny = distance(3e-10, 1e-12, arc([0.0, 0.0, 3e-10, 1e-10, 0.0, 0.0, 0.0], CCW | CLOSED | ELLIPSE)).words;
+    let edge = Edge { call: 20, words: tiny, moved: 5, from: 0.9e-10, to: 1.1e-10, sides: bend, varied: &[], equal: true };
     let mut rows = edge.rows();
     let marks = CCW | ELLIPSE;
     // Samples equally far: the first counts.

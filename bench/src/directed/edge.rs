@@ -11,8 +11,8 @@ pub struct Edge {
     pub from: f64,
     pub to: f64,
     pub sides: fn(&[u64]) -> (f64, f64),
-    /// The word that is varied until the sides are equal, and neighbours; `None` where they are at once or never.
-    pub varied: Option<usize>,
+    /// The words that are varied, all by one factor, until the sides are equal, and neighbours; none where they are at once or never.
+    pub varied: &'static [usize],
     /// Whether some input makes both sides equal, and so tells `<` from `<=`.
     pub equal: bool,
 }
@@ -62,14 +62,15 @@ impl Edge {
         let given = self.words.clone();
         let mut words = [self.turn(|(a, b)| a < b), self.turn(|(a, b)| a <= b)].concat();
         let mut close = self.close();
-        if let Some(i) = self.varied.filter(|_| self.equal) {
-            for _ in 0..TRIES {
-                if close.iter().all(Option::is_some) {
-                    break;
-                }
-                self.words[i] = (real(&given, i) * (1.0 + random.within(1e-3))).to_bits();
-                close = std::array::from_fn(|k| close[k].take().or_else(|| self.close()[k].take()));
+        let tries = if self.equal && !self.varied.is_empty() { TRIES } else { 0 };
+        for _ in 0..tries {
+            if close.iter().all(Option::is_some) {
+                break;
             }
+            let factor = 1.0 + random.within(1e-3);
+            self.varied.iter().for_each(|&i| self.words[i] = (real(&given, i) * factor).to_bits());
+            let found = self.close();
+            close = std::array::from_fn(|k| close[k].take().or_else(|| found[k].clone()));
         }
         assert_eq!(close[1].is_some(), self.equal, "call {:x}, word {}: equal sides", self.call, self.moved);
         words.extend(close.into_iter().flatten());

@@ -120,30 +120,30 @@ pub fn rows() -> Vec<Row> {
     };
     // `chord_len < 1e-12`, of half an ellipse so high that its bulge passes. m_len is the root of the same sum of squares, and so its
     // test cannot be told from none.
-    edges.push(edge([0.0, 0.0, 0.0, 1.0, 1e-13, 0.0, 0.0, -1.0, 4.0], 4, 1e-13, 1e-11, |w| (steps(w).chord_len, 1e-12), Some(5), true));
+    edges.push(edge([0.0, 0.0, 0.0, 1.0, 1e-13, 0.0, 0.0, -1.0, 4.0], 4, 1e-13, 1e-11, |w| (steps(w).chord_len, 1e-12), &[5], true));
     // `denom.abs() > 1e-12`: below it the sign is 1, above it the center's side decides.
     for sign in [1.0, -1.0] {
         let (from, to) = (sign * 1e-13, sign * 1e-11);
-        edges.push(edge([0.0, 0.0, 0.0, 1.0, 2.0, 0.0, from, -1.0, 0.75], 6, from, to, |w| (steps(w).denom.abs(), 1e-12), None, true));
+        edges.push(edge([0.0, 0.0, 0.0, 1.0, 2.0, 0.0, from, -1.0, 0.75], 6, from, to, |w| (steps(w).denom.abs(), 1e-12), &[], true));
     }
     // `center_side >= 0.0`: the normal at the first point runs along the chord, so that it is 0; and turned to either side.
-    edges.push(edge([0.0, 0.0, 0.0, 1.0, 2.0, 0.0, 0.5, -1.0, 0.75], 2, -0.1, 0.1, |w| (steps(w).center_side, 0.0), None, true));
+    edges.push(edge([0.0, 0.0, 0.0, 1.0, 2.0, 0.0, 0.5, -1.0, 0.75], 2, -0.1, 0.1, |w| (steps(w).center_side, 0.0), &[], true));
     // `m_val.abs() < 1e-12`, of a small flat ellipse and of either sign.
     for sign in [1.0, -1.0] {
         let (from, to) = (sign * 1e-5, sign * 1e-3);
-        edges.push(edge([0.0, 0.0, 0.0, 1.0, 2e-8, 0.0, 0.0, -1.0, from], 8, from, to, |w| (steps(w).m_val.abs(), 1e-12), Some(4), true));
+        edges.push(edge([0.0, 0.0, 0.0, 1.0, 2e-8, 0.0, 0.0, -1.0, from], 8, from, to, |w| (steps(w).m_val.abs(), 1e-12), &[4], true));
     }
     // `det2 <= 1e-12`.
-    edges.push(edge([0.0, 0.0, 0.0, 1e-4, 2.0, 0.0, 0.0, -1e-3, 1.0], 3, 1e-4, 1e-2, |w| (steps(w).det2, 1e-12), Some(8), true));
+    edges.push(edge([0.0, 0.0, 0.0, 1e-4, 2.0, 0.0, 0.0, -1e-3, 1.0], 3, 1e-4, 1e-2, |w| (steps(w).det2, 1e-12), &[8], true));
     // `ev1.abs() < 1e-12 || ev2.abs() < 1e-12`, each alone. det2 is above 1e-12 before, and so the other eigenvalue above 1; then the
     // smaller is a multiple of 2^-53 and 1e-12 is none, so that `<=` gives the same.
-    edges.push(edge([0.0, 0.0, 0.0, 1e-6, 2.0, 0.0, 0.0, -1e-6, 7e-7], 3, 0.5e-6, 2e-6, |w| (steps(w).ev1.abs(), 1e-12), None, false));
-    edges.push(edge([0.0, 0.0, 0.0, 1e-6, 2.0, 0.0, 0.0, 1e-6, 7e-7], 3, 0.5e-6, 2e-6, |w| (steps(w).ev2.abs(), 1e-12), None, false));
+    edges.push(edge([0.0, 0.0, 0.0, 1e-6, 2.0, 0.0, 0.0, -1e-6, 7e-7], 3, 0.5e-6, 2e-6, |w| (steps(w).ev1.abs(), 1e-12), &[], false));
+    edges.push(edge([0.0, 0.0, 0.0, 1e-6, 2.0, 0.0, 0.0, 1e-6, 7e-7], 3, 0.5e-6, 2e-6, |w| (steps(w).ev2.abs(), 1e-12), &[], false));
     // `b.abs() > 1e-12` of the rotation.
-    edges.push(edge([0.0, 0.0, 0.0, 1.0, 2.0, 0.0, 0.0, -1.0, 0.5], 2, 1e-13, 1e-11, |w| (steps(w).b.abs(), 1e-12), Some(8), true));
+    edges.push(edge([0.0, 0.0, 0.0, 1.0, 2.0, 0.0, 0.0, -1.0, 0.5], 2, 1e-13, 1e-11, |w| (steps(w).b.abs(), 1e-12), &[8], true));
     // `a <= c` where b vanishes.
-    edges.push(edge([0.0, 0.0, 0.0, 1.0, 2.0, 0.0, 0.0, -1.0, 1.0], 8, 0.9, 1.1, |w| { let s = steps(w); (s.a, s.c) }, None, true));
-    edges.push(edge([0.0, 0.0, 0.0, 1.0, 2.0, 0.0, 0.0, 1.0, 1.0], 8, 0.9, 1.1, |w| { let s = steps(w); (s.a, s.c) }, None, true));
+    edges.push(edge([0.0, 0.0, 0.0, 1.0, 2.0, 0.0, 0.0, -1.0, 1.0], 8, 0.9, 1.1, |w| { let s = steps(w); (s.a, s.c) }, &[], true));
+    edges.push(edge([0.0, 0.0, 0.0, 1.0, 2.0, 0.0, 0.0, 1.0, 1.0], 8, 0.9, 1.1, |w| { let s = steps(w); (s.a, s.c) }, &[], true));
     let mut rows: Vec<Row> = edges.into_iter().flat_map(Edge::rows).collect();
     // `rx_sq <= 0.0 || ry_sq <= 0.0`: both, one alone, and 0. They have one sign but where rounding decides.
     rows.extend(drawn(|s| s.has_axes() && s.rx_sq < 0.0 && s.ry_sq < 0.0, 2));

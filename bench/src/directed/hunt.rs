@@ -33,19 +33,19 @@ fn edges() -> Vec<Edge> {
     // `rb_a < 1e-12 || rb_b < 1e-12`, each alone, and of a circle both.
     let first = |w: &[u64]| (arc_radii(&bow(w, 8)).0, 1e-12);
     let second = |w: &[u64]| (arc_radii(&bow(w, 8)).1, 1e-12);
-    edges.push(edge(pair(ellipse(0.0, 0.0, 2.0, 1.0), ellipse(0.0, 0.0, 1.0, 3.0), 0), 10, 1e-13, 1e-11, first, None));
-    edges.push(edge(pair(ellipse(0.0, 0.0, 2.0, 1.0), ellipse(0.0, 0.0, 3.0, 1.0), 0), 11, 1e-13, 1e-11, second, None));
-    edges.push(edge(pair(ellipse(0.0, 0.0, 2.0, 1.0), circle(2.0, 0.0, 1.0), 0), 10, 1e-13, 1e-11, first, None));
+    edges.push(edge(pair(ellipse(0.0, 0.0, 2.0, 1.0), ellipse(0.0, 0.0, 1.0, 3.0), 0), 10, 1e-13, 1e-11, first, &[]));
+    edges.push(edge(pair(ellipse(0.0, 0.0, 2.0, 1.0), ellipse(0.0, 0.0, 3.0, 1.0), 0), 11, 1e-13, 1e-11, second, &[]));
+    edges.push(edge(pair(ellipse(0.0, 0.0, 2.0, 1.0), circle(2.0, 0.0, 1.0), 0), 10, 1e-13, 1e-11, first, &[]));
     // `step.abs() < 1e-15`, with the step of depth 0 at every depth, and in both directions.
     for depth in 0..4 {
         let short = arc([0.0, 0.0, 2.0, 1.0, 0.0, 0.0, 1e-14], CCW | ELLIPSE);
-        edges.push(edge(pair(short, circle(2.0, 0.0, 1.0), depth), 6, 1e-14, 1e-12, step, None));
+        edges.push(edge(pair(short, circle(2.0, 0.0, 1.0), depth), 6, 1e-14, 1e-12, step, &[]));
     }
     let back = arc([0.0, 0.0, 2.0, 1.0, 0.0, 0.0, -1e-14], ELLIPSE);
-    edges.push(edge(pair(back, circle(2.0, 0.0, 1.0), 0), 6, -1e-14, -1e-12, step, None));
+    edges.push(edge(pair(back, circle(2.0, 0.0, 1.0), 0), 6, -1e-14, -1e-12, step, &[]));
     // `(h.t_a - ta).abs() < 1e-7`: a hole of that width near the arc's start, where angles are fine enough for equality.
     let thin = arc([0.0, 0.0, 1.0, 1.0, 0.0, 0.0, 2e-7], CCW | ELLIPSE);
-    edges.push(edge(pair(thin, circle(1.0, 5.5e-8, 5e-8), 0), 10, 4.9e-8, 5.1e-8, nearness, Some(9)));
+    edges.push(edge(pair(thin, circle(1.0, 5.5e-8, 5e-8), 0), 10, 4.9e-8, 5.1e-8, nearness, &[9]));
     edges
 }
 

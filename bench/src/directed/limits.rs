@@ -42,7 +42,8 @@ pub fn ordinary() -> Vec<Row> {
     numbered.into_iter().flat_map(numbers).collect()
 }
 
-fn with(r: &Row, changes: &[(usize, u64)]) -> Row {
+/// The same row with other words in some places.
+pub fn with(r: &Row, changes: &[(usize, u64)]) -> Row {
     let mut words = r.words.clone();
     changes.iter().for_each(|&(i, w)| words[i] = w);
     of(r.call, words)

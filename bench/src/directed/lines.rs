@@ -33,12 +33,12 @@ pub fn rows() -> Vec<Row> {
     // `len2 < 1e-12`, of a point beyond the end.
     for call in [12, 13] {
         let words = reals([1.0, 0.25, 0.0, 0.0, 1e-7, 2e-7]).to_vec();
-        edges.push(Edge { call, words, moved: 4, from: 1e-7, to: 1e-5, sides: length_squared, varied: Some(5), equal: true });
+        edges.push(Edge { call, words, moved: 4, from: 1e-7, to: 1e-5, sides: length_squared, varied: &[5], equal: true });
     }
     // `clamp(0.0, 1.0)`. At an end the clamped t is the end itself, so that `<` and `<=` give the same.
     let beside = |from, to, sides| {
         let words = reals([0.0, 0.3, 0.0, 0.0, 3.0, 1.0]).to_vec();
-        Edge { call: 13, words, moved: 0, from, to, sides, varied: Some(1), equal: true }
+        Edge { call: 13, words, moved: 0, from, to, sides, varied: &[1], equal: true }
     };
     edges.push(beside(-0.2, 0.0, |w| (along(w), 0.0)));
     edges.push(beside(3.0, 3.4, |w| (along(w), 1.0)));
@@ -47,20 +47,20 @@ pub fn rows() -> Vec<Row> {
         let sides = |w: &[u64]| (denominator(w).abs(), 1e-12);
         let (from, to) = (sign * 1e-13, sign * 1e-11);
         let lines = reals([0.0, 0.0, 1.0, 0.0, 2.0, 0.0, 3.0, from]).to_vec();
-        edges.push(Edge { call: 14, words: lines, moved: 7, from, to, sides, varied: None, equal: true });
+        edges.push(Edge { call: 14, words: lines, moved: 7, from, to, sides, varied: &[], equal: true });
         let segments = [&reals([0.0, 0.0, 1.0, 0.0, 0.5, 0.0, 1.5, from])[..], &[4]].concat();
-        edges.push(Edge { call: 15, words: segments, moved: 7, from, to, sides, varied: None, equal: true });
+        edges.push(Edge { call: 15, words: segments, moved: 7, from, to, sides, varied: &[], equal: true });
     }
     // `-eps..=1.0 + eps` of both parameters, eps = 1e-9. The position has the t_a that is not clamped.
     let first = |from, to, sides| {
         let words = [&reals([0.0, 0.0, 1.0, 0.0, from, 0.0, 0.25, 1.0])[..], &[4]].concat();
-        Edge { call: 15, words, moved: 4, from, to, sides, varied: None, equal: true }
+        Edge { call: 15, words, moved: 4, from, to, sides, varied: &[], equal: true }
     };
     edges.push(first(-1e-8, 0.0, |w| (t_a(w), -1e-9)));
     edges.push(first(1.0, 1.1, |w| (t_a(w), 1.0 + 1e-9)));
     let second = |from, to, sides| {
         let words = [&reals([from, 0.0, 0.25, 1.0, 0.0, 0.0, 1.0, 0.0])[..], &[4]].concat();
-        Edge { call: 15, words, moved: 0, from, to, sides, varied: None, equal: true }
+        Edge { call: 15, words, moved: 0, from, to, sides, varied: &[], equal: true }
     };
     edges.push(second(-1e-8, 0.0, |w| (t_b(w), -1e-9)));
     edges.push(second(1.0, 1.1, |w| (t_b(w), 1.0 + 1e-9)));

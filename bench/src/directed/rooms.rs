@@ -1,5 +1,5 @@
 //! What is lent: rooms, counts, `out` and the numbers of an arc, of every length that matters; depths; marks and flags.
-use super::limits::ordinary;
+use super::limits::{self, ordinary};
 use super::{arc, call, circle, of, reals, row, Row, CCW, CLOSED, ELLIPSE, SEGMENT};
 use crate::calls::{counts, need, outputs, Lent, ENOUGH};
 
@@ -9,9 +9,7 @@ fn lending(r: &Row, lent: Lent) -> Row {
 }
 
 fn with(r: &Row, i: usize, word: u64) -> Row {
-    let mut words = r.words.clone();
-    words[i] = word;
-    of(r.call, words)
+    limits::with(r, &[(i, word)])
 }
 
 /// Too few numbers of an arc, and just enough; of a segment four are enough.

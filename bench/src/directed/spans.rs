@@ -19,7 +19,7 @@ pub fn rows() -> Vec<Row> {
     }
     // `off <= span + SPAN_EPS` in both directions: past the end, and at a span that leaves only the start.
     let in_span = |start: f64, end: f64, marks: u64, theta: f64| [&arc([0.5, -0.5, 2.0, 1.0, 0.25, start, end], marks)[..], &reals([theta])].concat();
-    let edge = |words, moved, from, to| Edge { call: 8, words, moved, from, to, sides: offset, varied: None, equal: true };
+    let edge = |words, moved, from, to| Edge { call: 8, words, moved, from, to, sides: offset, varied: &[], equal: true };
     rows.extend(edge(in_span(0.0, 1.0, CCW, 1.0), 8, 1.0, 1.1).rows());
     rows.extend(edge(in_span(0.0, -1.0, 0, -1.0), 8, -1.0, -1.1).rows());
     rows.extend(edge(in_span(0.0, -1e-9, CCW, 0.0), 6, -1e-8, 0.0).rows());

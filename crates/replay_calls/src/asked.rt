@@ -7,10 +7,10 @@ use replay_rows::lent;
 use replay_rows::words::UNWRITTEN;
 use replay_rows::words::put_numbers;
 
-// A row begins with the call's number, what is lent, and how many inputs it has: the arc's numbers, the second arc's, those of `out`,
-// the counts.
+// A row begins with the call's number, four lengths that are lent, and how many inputs follow.
 const FIRST: usize = 6;
 
+// The words that say how many numbers are lent of the first arc, of the second and of `out`, and how many counts.
 pub const LENT_A: usize = 1;
 
 pub const LENT_B: usize = 2;
@@ -110,7 +110,10 @@ fn ask(words: &[u64; 128], out: &mut [f64]) -> u32 {
 // No answer in numbers has more than eight.
 fn numbers_answer(words: &[u64; 128], told: &mut [u64; 128]) -> u32 {
     let mut numbers = [UNWRITTEN; 8];
-    let refusal = ask(words, lent::part_mut(&mut numbers, words[LENT_OUT] as usize));
+    let refusal = ask(
+        words,
+        lent::part_mut(&mut numbers, words[LENT_OUT] as usize),
+    );
     put_numbers(&numbers, told, 0);
     refusal
 }

@@ -1,8 +1,8 @@
 // Every public call held against stored answers of the original. A row of standard input is a call, its inputs and its answer,
-// in the form that bench/src/bin/samples.rs says, which wrote them: `bench/run samples 1 > crates/replay_calls/stdin`. The program asks
-// the library the same, and compares the refusal and each word; a number's word is its bits, with one NaN, and what is past
-// the answer must stand as it was lent. It prints for each call how many rows it had and how many of them the library answers otherwise; at last the sum,
-// and how many rows could not be read.
+// in the form that bench/src/bin/samples.rs says, which wrote them: `bench/run samples 1 > crates/replay_calls/stdin`. The program
+// asks the library the same. A row is the same where the refusal is, and each word of the answer, and where what was lent past it
+// stands as it was, as far as 128 words reach; a number's word is its bits, with one NaN. It prints for each call how many rows it had and how many of
+// them the library answers otherwise; at last the sum, and how many rows could not be read.
 mod asked;
 mod by_arc;
 mod by_numbers;
