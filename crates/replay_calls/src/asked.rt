@@ -122,7 +122,8 @@ fn numbers_answer(words: &[u64; 128], told: &mut [u64; 128]) -> u32 {
 pub fn answer(words: &[u64; 128], told: &mut [u64; 128]) -> u32 {
     let call = words[0];
     match call {
-        0xf..=0x13 => crossings::answer(words, told),
+        0xf..=0x12 => crossings::room_answer(words, told),
+        0x13 => crossings::hit_answer(words, told),
         _ => numbers_answer(words, told),
     }
 }

@@ -91,12 +91,12 @@ fn in_room(words: &[u64; 128], room: &mut [f64], told: &mut [u64; 128]) -> u32 {
 }
 
 // No pair needs more, so that a longer room changes nothing.
-fn room_answer(words: &[u64; 128], told: &mut [u64; 128]) -> u32 {
+pub fn room_answer(words: &[u64; 128], told: &mut [u64; 128]) -> u32 {
     let mut room = [UNWRITTEN; LONGEST];
     in_room(words, &mut room, told)
 }
 
-fn hit_answer(words: &[u64; 128], told: &mut [u64; 128]) -> u32 {
+pub fn hit_answer(words: &[u64; 128], told: &mut [u64; 128]) -> u32 {
     let mut numbers = [UNWRITTEN; HIT];
     let mut counts = [UNWRITTEN_BITS; 6];
     let written = asked::arc(words, 0);
@@ -110,11 +110,4 @@ fn hit_answer(words: &[u64; 128], told: &mut [u64; 128]) -> u32 {
     put_words(&counts, 1, told);
     put_numbers(&numbers, told, 1);
     refusal
-}
-
-pub fn answer(words: &[u64; 128], told: &mut [u64; 128]) -> u32 {
-    if words[0] == 0x13 {
-        return hit_answer(words, told);
-    }
-    room_answer(words, told)
 }

@@ -1,5 +1,6 @@
 -- How a row is counted: once among the rows of its call and of all, where it could be read; and once more where the answer differs. Definitions only. Assumes nothing.
 use Prim.Native.Nat.{ℕ, _+_}
+use mathlib.Core.Path.{_≡_}
 use mathlib.Core.Bool.{cond}
 use mathlib.Core.List.{List}
 use lib.Dec.{ltb}
@@ -32,3 +33,8 @@ abbrev pub differAfter : Row → ℕ → List ℕ → List ℕ
 differAfter row.Unread call differ = differ
 differAfter row.Same call differ = differ
 differAfter row.Differs call differ = counted differ call
+
+-- THE COUNTING: the unread rows and both lists after a row, by those before it
+abbrev pub Counts : Row → ℕ → ℕ → List ℕ → List ℕ → ℕ → List ℕ → List ℕ → Type 0
+Counts row call unread rows differ unread' rows' differ' =
+    (unread' ≡ unreadAfter row unread) × (rows' ≡ rowsAfter row call rows) × (differ' ≡ differAfter row call differ)

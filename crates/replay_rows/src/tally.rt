@@ -1,6 +1,6 @@
 // How many rows there were of each call and of all, and how many of them the library answers otherwise.
 ghost use mathlib.Core.Path.{_≡_};
-ghost use Rattle.replay_rows.specs.Counted.{oneMore, counted, unreadAfter, rowsAfter, differAfter};
+ghost use Rattle.replay_rows.specs.Counted.{oneMore, counted, Counts};
 use libc::STDOUT_FILENO;
 
 pub enum Row {
@@ -37,7 +37,7 @@ pub fn counted(
     rows: &mut [u64; 26],
     differ: &mut [u64; 26],
 ) -> u64
-    ensures { λ r. ⌜ (r ≡ unreadAfter row unread) × (now (rows .exit) ≡ rowsAfter row call (now (rows .entry))) × (now (differ .exit) ≡ differAfter row call (now (differ .entry))) ⌝ }
+    ensures { λ r. ⌜ Counts row call unread (now (rows .entry)) (now (differ .entry)) r (now (rows .exit)) (now (differ .exit)) ⌝ }
 {
     match row {
         Row::Unread => one_more(unread),
