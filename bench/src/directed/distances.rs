@@ -91,7 +91,7 @@ fn ellipse_rows() -> Vec<Row> {
     let edge = Edge { call: 20, words: tiny, moved: 5, from: 0.9e-10, to: 1.1e-10, sides: bend, varied: &[], equal: true };
     let mut rows = edge.rows();
     let marks = CCW | ELLIPSE;
-    // Samples equally far: the first counts.
+    // Samples equally far: the first counts. The distance before the first sample, f64::MAX, is beyond any within the limits.
     for start in [-PI, -FRAC_PI_2, 0.0, FRAC_PI_2] {
         let a = arc([0.0, 0.0, 2.0, 1.0, 0.0, start, 0.0], marks | CLOSED);
         rows.extend([distance(0.0, 0.0, a), parameter(0.0, 0.0, a), distance(0.5, 0.0, a), parameter(0.5, 0.0, a), parameter(0.0, 3.0, a)]);

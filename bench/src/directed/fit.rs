@@ -119,7 +119,7 @@ pub fn rows() -> Vec<Row> {
         Edge { call: 25, words: reals(numbers).to_vec(), moved, from, to, sides, varied, equal }
     };
     // `chord_len < 1e-12`, of half an ellipse so high that its bulge passes. m_len is the root of the same sum of squares, and so its
-    // test cannot be told from none.
+    // test cannot be told from none, and a lower bound in one of both tests gives the same.
     edges.push(edge([0.0, 0.0, 0.0, 1.0, 1e-13, 0.0, 0.0, -1.0, 4.0], 4, 1e-13, 1e-11, |w| (steps(w).chord_len, 1e-12), &[5], true));
     // `denom.abs() > 1e-12`: below it the sign is 1, above it the center's side decides.
     for sign in [1.0, -1.0] {
@@ -145,7 +145,8 @@ pub fn rows() -> Vec<Row> {
     edges.push(edge([0.0, 0.0, 0.0, 1.0, 2.0, 0.0, 0.0, -1.0, 1.0], 8, 0.9, 1.1, |w| { let s = steps(w); (s.a, s.c) }, &[], true));
     edges.push(edge([0.0, 0.0, 0.0, 1.0, 2.0, 0.0, 0.0, 1.0, 1.0], 8, 0.9, 1.1, |w| { let s = steps(w); (s.a, s.c) }, &[], true));
     let mut rows: Vec<Row> = edges.into_iter().flat_map(Edge::rows).collect();
-    // `rx_sq <= 0.0 || ry_sq <= 0.0`: both, one alone, and 0. They have one sign but where rounding decides.
+    // `rx_sq <= 0.0 || ry_sq <= 0.0`: both, one alone, and 0. They have one sign but where rounding decides,
+    // and are 0 at once, so that `<` in one of both tests gives the same.
     rows.extend(drawn(|s| s.has_axes() && s.rx_sq < 0.0 && s.ry_sq < 0.0, 2));
     rows.extend(at_parabola(|s| s.has_axes() && s.rx_sq < 0.0 && s.ry_sq > 0.0, 2));
     rows.extend(at_parabola(|s| s.has_axes() && s.rx_sq > 0.0 && s.ry_sq < 0.0, 2));

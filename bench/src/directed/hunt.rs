@@ -77,6 +77,7 @@ pub fn rows() -> Vec<Row> {
         let (flange, relief) = (ellipse(0.0, 0.0, 1000.0, 1000.0), circle(999.9247, 12.2715, 10.0));
         push(flange, relief, depth);
         push(relief, flange, depth);
+        // Sample 0 is the start itself: start + step * 0 could differ from it in the sign of a zero alone, and that goes nowhere.
         // Sample values that are 0: at the start, which brackets; at a later sample, which brackets once, from its own cell on; and
         // at the last, which counts only as the end of its cell.
         push(ellipse(0.0, 0.0, 1.0, 1.0), circle(2.0, 0.0, 1.0), depth);

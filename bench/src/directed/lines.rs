@@ -51,7 +51,8 @@ pub fn rows() -> Vec<Row> {
         let segments = [&reals([0.0, 0.0, 1.0, 0.0, 0.5, 0.0, 1.5, from])[..], &[4]].concat();
         edges.push(Edge { call: 15, words: segments, moved: 7, from, to, sides, varied: &[], equal: true });
     }
-    // `-eps..=1.0 + eps` of both parameters, eps = 1e-9. The position has the t_a that is not clamped.
+    // `-eps..=1.0 + eps` of both parameters, eps = 1e-9. The position has the t_a that is not clamped. One unit more or less of eps is
+    // lost in 1.0 + eps.
     let first = |from, to, sides| {
         let words = [&reals([0.0, 0.0, 1.0, 0.0, from, 0.0, 0.25, 1.0])[..], &[4]].concat();
         Edge { call: 15, words, moved: 4, from, to, sides, varied: &[], equal: true }

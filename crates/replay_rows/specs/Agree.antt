@@ -1,4 +1,4 @@
--- When an answer is that of a row: "the refusal", and the words told are the row's outputs and, past these, what stood there before. A row is the call, four lengths, how many
+-- When an answer is that of a row: the refusal is the row's, and the words told are its outputs and, past these, what stood there before. A row is the call, four lengths, how many
 -- inputs, the inputs, the refusal, how many outputs, the outputs: bench/src/bin/samples.rs. Definitions only. Assumes nothing.
 use Prim.Native.Nat.{ℕ, _+_, _<_}
 use mathlib.Core.Path.{_≡_}
