@@ -14,7 +14,7 @@
 //! | x, n | a number of a room that is written already; a length, a count or an index: none of them is tested |
 //!
 //! Outputs are words too: numbers as bits with one NaN (ccw as 1.0 or 0.0); for crossings the counts, and then the hits.
-use crate::{bits, oracle, search::search};
+use crate::{bits, oracle, search::search, NAN};
 use arcs::{checked, vect2d, Arc, Counts, Curve, Param, Refusal};
 
 pub struct Call {
@@ -195,17 +195,23 @@ fn two_curves(a: Curve, b: Curve, depth: u64) -> Told {
 
 fn own_hit(w: &[u64]) -> Told {
     let room: Vec<f64> = (0..w[12] as usize).map(|i| real(w, i)).collect();
-    checked::hit(&room, w[13] as usize, w[14] as usize).map_or(refused(0), |h| answer((h.t_a, h.t_b, h.pos)))
+    counted(checked::hit(&room, w[13] as usize, w[14] as usize).map_or(refused(0), |h| answer((h.t_a, h.t_b, h.pos))))
+}
+
+/// How many numbers there are, then these.
+fn counted(mut told: Told) -> Told {
+    told.numbers.insert(0, told.numbers.len() as u64);
+    told
 }
 
 /// "an index not below the stated number of hits, or whose four numbers do not all fit in the room, gets the empty part"
 fn oracle_hit(w: &[u64]) -> Told {
     let (room, count, i) = (w[12] as u128, w[13] as u128, w[14] as u128);
     if i >= count || 4 * i + 4 > room {
-        return refused(0);
+        return counted(refused(0));
     }
     let at = 4 * i as usize;
-    answer((position(w, at), position(w, at + 2)))
+    counted(answer((position(w, at), position(w, at + 2))))
 }
 
 // The refusals.
@@ -247,8 +253,61 @@ pub fn need(takes: &str, w: &[u64]) -> u64 {
     }
 }
 
-/// 1 over all the numbers, then 2, 3, 4.
-fn refusal(takes: &str, w: &[u64]) -> u32 {
+/// How many numbers are lent of the first arc or curve, of the second and of `out`, and how many counts. A call that has none of
+/// them does not look.
+#[derive(Clone, Copy)]
+pub struct Lent {
+    pub a: u64,
+    pub b: u64,
+    pub out: u64,
+    pub counts: u64,
+}
+
+/// Enough for every call.
+pub const ENOUGH: Lent = Lent { a: 7, b: 7, out: 8, counts: 6 };
+
+/// How many numbers a call writes to `out`, as include/arcs.h says; 0 of a call that has a room.
+pub fn outputs(number: u32) -> u64 {
+    match number {
+        7 | 8 | 10..=12 | 21 => 1,
+        20 | 24 => 3,
+        19 => 4,
+        22 | 23 => 6,
+        25 => 8,
+        15..=18 => 0,
+        _ => 2,
+    }
+}
+
+/// How many counts a call writes.
+pub fn counts(number: u32) -> u64 {
+    match number {
+        15 | 16 | 19 => 1,
+        17 | 18 => 6,
+        _ => 0,
+    }
+}
+
+/// "A number that the caller has not lent is the NaN": the words with it in such places.
+fn as_lent(takes: &str, w: &[u64], lent: Lent) -> Vec<u64> {
+    let (mut words, mut i, mut lengths) = (w.to_vec(), 0, [lent.a, lent.b].into_iter());
+    for letter in takes.chars() {
+        if "AK".contains(letter) {
+            let from = i + lengths.next().unwrap().min(7) as usize;
+            words[from..i + 7].fill(NAN);
+        }
+        i += match letter {
+            'A' | 'K' => 8,
+            'p' | 'v' => 2,
+            _ => 1,
+        };
+    }
+    words
+}
+
+/// 1 over all the numbers, then 2, 3, and 4 for every room that is lent.
+fn refusal(call: &Call, w: &[u64], lent: Lent) -> u32 {
+    let takes = call.takes;
     let limits = limits(takes, w);
     let depth = if takes.ends_with("dr") { w[w.len() - 2] } else { 0 };
     let room = if takes.ends_with('r') { w[w.len() - 1] } else { 0 };
@@ -258,7 +317,7 @@ fn refusal(takes: &str, w: &[u64]) -> u32 {
         2
     } else if depth > 3 {
         3
-    } else if room < need(takes, w) {
+    } else if room < need(takes, w) || lent.out < outputs(call.number) || lent.counts < counts(call.number) {
         4
     } else {
         0
@@ -266,9 +325,13 @@ fn refusal(takes: &str, w: &[u64]) -> u32 {
 }
 
 impl Call {
-    /// What the oracle tells, refusals included.
+    /// What the oracle tells, refusals included, where enough is lent.
     pub fn told(&self, w: &[u64]) -> Told {
-        match refusal(self.takes, w) {
+        self.told_in(w, ENOUGH)
+    }
+
+    pub fn told_in(&self, w: &[u64], lent: Lent) -> Told {
+        match refusal(self, &as_lent(self.takes, w, lent), lent) {
             0 => (self.oracle)(w),
             no => refused(no),
         }
@@ -301,7 +364,7 @@ fn at(w: &[u64], i: usize) -> oracle::vect2d {
 }
 
 /// An arc for the oracle.
-fn bow(w: &[u64], i: usize) -> oracle::Arc {
+pub fn bow(w: &[u64], i: usize) -> oracle::Arc {
     arc(w, i).into()
 }
 

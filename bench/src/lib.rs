@@ -1,6 +1,7 @@
 //! What the comparisons share: the original's text, the calls and their inputs, a generator with a seed, and a stopwatch.
 pub mod calls;
 pub mod cases;
+pub mod directed;
 pub mod search;
 
 use std::time::Instant;

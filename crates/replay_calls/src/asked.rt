@@ -1,23 +1,23 @@
 // What the library answers to the inputs of a row. The calls have the numbers of the table in bench/src/bin/samples.rs.
-ghost use mathlib.Core.Path.{_≡_};
 ghost use Prim.Native.Nat.{_≤_, _<_};
-ghost use lib.ListN.{length};
 use crate::by_arc;
 use crate::by_numbers;
 use crate::crossings;
-use crate::words;
+use replay_rows::lent;
+use replay_rows::words::UNWRITTEN;
+use replay_rows::words::put_numbers;
 
-// A row begins with the call's number and how many inputs it has.
-const FIRST: usize = 2;
+// A row begins with the call's number, four lengths that are lent, and how many inputs follow.
+const FIRST: usize = 6;
 
-// What stands where an answer is to be written: a number that no answer has.
-pub const UNWRITTEN: f64 = 1.0e300;
+// The words that say how many numbers are lent of the first arc, of the second and of `out`, and how many counts.
+pub const LENT_A: usize = 1;
 
-// The refusal, 0 for none, and how many words are told.
-pub struct Told {
-    pub refusal: u64,
-    pub len: usize,
-}
+pub const LENT_B: usize = 2;
+
+pub const LENT_OUT: usize = 3;
+
+pub const LENT_COUNTS: usize = 4;
 
 // The first inputs as numbers. Where one is a whole number, what its bits would be as a number is not used.
 pub struct First {
@@ -50,31 +50,6 @@ pub fn arity(call: u64) -> usize
     }
 }
 
-// How many numbers a call answers that lends no room.
-fn outputs(call: u64) -> usize {
-    match call {
-        7 | 8 | 0xa..=0xc | 0x15 => 1,
-        0x14 | 0x18 => 3,
-        0x16 | 0x17 => 6,
-        0x19 => 8,
-        _ => 2,
-    }
-}
-
-// Where a call is refused nothing is told.
-pub fn as_told(refusal: u32, len: usize) -> Told {
-    if refusal == 0 {
-        return Told {
-            refusal: 0,
-            len: len,
-        };
-    }
-    Told {
-        refusal: refusal as u64,
-        len: 0,
-    }
-}
-
 pub fn number(words: &[u64; 128], input: usize) -> f64
     requires { ⌜ input < 36 ⌝ }
 {
@@ -98,7 +73,6 @@ pub fn first_inputs(words: &[u64; 128]) -> First {
 // The inputs from one on, the seven numbers of an arc or the twelve of a room that is written.
 pub fn arc(words: &[u64; 128], from: usize) -> [f64; 12]
     requires { ⌜ from < 18 ⌝ }
-    ensures { λ r. ⌜ 12 ≡ length r ⌝ }
 {
     let mut x = [0.0; 12];
     for i in 0..12usize {
@@ -134,18 +108,22 @@ fn ask(words: &[u64; 128], out: &mut [f64]) -> u32 {
 }
 
 // No answer in numbers has more than eight.
-fn numbers_answer(words: &[u64; 128], out: &mut [u64; 128]) -> Told {
+fn numbers_answer(words: &[u64; 128], told: &mut [u64; 128]) -> u32 {
     let mut numbers = [UNWRITTEN; 8];
-    let refusal = ask(words, &mut numbers);
-    words::put_numbers(&numbers, 8, out, 0);
-    as_told(refusal, outputs(words[0]))
+    let refusal = ask(
+        words,
+        lent::part_mut(&mut numbers, words[LENT_OUT] as usize),
+    );
+    put_numbers(&numbers, told, 0);
+    refusal
 }
 
-// The answer's words go to `out`.
-pub fn answer(words: &[u64; 128], out: &mut [u64; 128]) -> Told {
+// The refusal; the answer's words go to `told`.
+pub fn answer(words: &[u64; 128], told: &mut [u64; 128]) -> u32 {
     let call = words[0];
     match call {
-        0xf..=0x13 => crossings::answer(words, out),
-        _ => numbers_answer(words, out),
+        0xf..=0x12 => crossings::room_answer(words, told),
+        0x13 => crossings::hit_answer(words, told),
+        _ => numbers_answer(words, told),
     }
 }

@@ -1,15 +1,15 @@
--- `replay_calls::print_calls` is safe: it reads below index 26. Assumes nothing.
+-- `tally::print_calls` is safe: it reads below index 26. Assumes nothing.
 use Prim.Native.Nat.{_≤_, _-_}
 use native.Mathlib.Omega.{arith}
 use borrow.Author.Needs.{needs}
-use Rattle.replay_calls.proofs.print_calls.Statement.{statement}
-use Rattle.replay_calls.proofs.print_calls.Tie as tie
+use Rattle.replay_rows.proofs.tally.print_calls.Statement.{statement}
+use Rattle.replay_rows.proofs.tally.print_calls.Tie as tie
 
 abbrev Inv-loop : tie.InvT-loop
-Inv-loop asked differ call₀ call = call ≤ 26
+Inv-loop rows differ call₀ call = call ≤ 26
 
 abbrev μ-loop : tie.MeasureT-loop
-μ-loop asked differ call₀ call = 26 - call
+μ-loop rows differ call₀ call = 26 - call
 
 pub print-calls-spec : {M : Type 1} → statement M
 print-calls-spec =

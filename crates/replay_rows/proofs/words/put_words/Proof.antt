@@ -2,8 +2,8 @@
 use Prim.Native.Nat.{_≤_, _-_}
 use native.Mathlib.Omega.{arith}
 use borrow.Author.Needs.{needs}
-use Rattle.replay_calls.proofs.words.put_words.Statement.{statement}
-use Rattle.replay_calls.proofs.words.put_words.Tie as tie
+use Rattle.replay_rows.proofs.words.put_words.Statement.{statement}
+use Rattle.replay_rows.proofs.words.put_words.Tie as tie
 
 abbrev Inv-loop : tie.InvT-loop
 Inv-loop words n out₀ i₀ out i = i ≤ n
