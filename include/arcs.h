@@ -49,7 +49,7 @@ extern "C" {
 #define ARCS_ARC_NUMBERS 7u
 #define ARCS_HIT_NUMBERS 4u
 
-/* ---- Roots and angles. These refuse nothing; outside its domain a call gives the NaN. */
+/* ---- Roots and angles. These refuse nothing; outside its domain a call gives the NaN, as bits 7ff8000000000000. */
 
 double arcs_sqrt(double x);
 double arcs_sin(double x);
@@ -81,7 +81,8 @@ uint32_t arcs_norm_tau(double v, double *out, size_t out_len);
 uint32_t arcs_arc_param_in_span(const double *a, size_t a_len, uint32_t a_marks, double theta, double *out, size_t out_len);
 /* out: 2 numbers, both radii; of a circle the radius twice. */
 uint32_t arcs_arc_radii(const double *a, size_t a_len, uint32_t a_marks, double *out, size_t out_len);
-/* out: 1 number, the parametric angle of a point (px, py) on the curve or near it. */
+/* out: 1 number, the parametric angle of a point (px, py) on the curve or near it; the NaN where a radius is 0 and so is that local
+ * coordinate. */
 uint32_t arcs_arc_theta_of_pos(const double *a, size_t a_len, uint32_t a_marks, double px, double py, double *out, size_t out_len);
 /* out: 1 number, the parametric angle of the curve's point in the direction of (px, py), seen from the center. Reads
  * radius_b whatever the marks, and takes a radius below 1e-12 for 1e-12. */

@@ -13,7 +13,8 @@
 //! | r | how many numbers the lent room has |
 //! | x, n | a number of a room that is written already; a length, a count or an index: none of them is tested |
 //!
-//! Outputs are words too: numbers as bits with one NaN (ccw as 1.0 or 0.0); for crossings the counts, and then the hits.
+//! Outputs are words too: numbers as bits (ccw as 1.0 or 0.0); for crossings the counts, and then the hits. The library's bits are
+//! taken as they are; where the oracle gives a NaN it says 7ff8000000000000, whatever the machine made of it.
 use crate::{bits, oracle, search::search, NAN};
 use arcs::{checked, vect2d, Arc, Counts, Curve, Param, Refusal};
 
@@ -86,7 +87,7 @@ trait Numbers {
 
 impl Numbers for f64 {
     fn give(self, to: &mut Vec<u64>) {
-        to.push(bits(self));
+        to.push(self.to_bits());
     }
 }
 
@@ -128,14 +129,26 @@ fn refused(refusal: u32) -> Told {
     Told { refusal, numbers: Vec::new(), kept: true }
 }
 
-fn answer(x: impl Numbers) -> Told {
+/// Bit for bit.
+fn given(x: impl Numbers) -> Told {
     let mut told = refused(0);
     x.give(&mut told.numbers);
     told
 }
 
+/// What the library gives.
 fn result(r: Result<impl Numbers, Refusal>) -> Told {
-    r.map_or_else(|refusal| refused(refusal.number()), answer)
+    r.map_or_else(|refusal| refused(refusal.number()), given)
+}
+
+/// What the oracle gives. 01: a NaN "that is found is [..] given as bits 7ff8000000000000".
+fn answer(x: impl Numbers) -> Told {
+    with_one_nan(given(x))
+}
+
+fn with_one_nan(told: Told) -> Told {
+    let numbers = told.numbers.iter().map(|&word| bits(f64::from_bits(word))).collect();
+    Told { numbers, ..told }
 }
 
 fn or_refused(refusal: u32, r: Option<impl Numbers>) -> Told {
@@ -153,7 +166,7 @@ fn lending<const N: usize>(len: u64, call: impl FnOnce(&mut [f64]) -> Result<[u6
         Ok(counts) => (Told { numbers: counts.to_vec(), ..refused(0) }, 4 * counts[0] as usize),
         Err(refusal) => (refused(refusal.number()), 0),
     };
-    told.numbers.extend(room[..hits].iter().map(|&x| bits(x)));
+    told.numbers.extend(room[..hits].iter().map(|x| x.to_bits()));
     told.kept = room[hits..].iter().all(|x| x.to_bits() == LENT);
     told
 }
@@ -161,7 +174,7 @@ fn lending<const N: usize>(len: u64, call: impl FnOnce(&mut [f64]) -> Result<[u6
 fn found(counts: &[u64], hits: &[oracle::CurveHit]) -> Told {
     let mut told = Told { numbers: counts.to_vec(), ..refused(0) };
     hits.iter().for_each(|h| (h.t_a, h.t_b, h.pos).give(&mut told.numbers));
-    told
+    with_one_nan(told)
 }
 
 fn closed(hits: &[oracle::CurveHit]) -> Told {
@@ -195,7 +208,7 @@ fn two_curves(a: Curve, b: Curve, depth: u64) -> Told {
 
 fn own_hit(w: &[u64]) -> Told {
     let room: Vec<f64> = (0..w[12] as usize).map(|i| real(w, i)).collect();
-    counted(checked::hit(&room, w[13] as usize, w[14] as usize).map_or(refused(0), |h| answer((h.t_a, h.t_b, h.pos))))
+    counted(checked::hit(&room, w[13] as usize, w[14] as usize).map_or(refused(0), |h| given((h.t_a, h.t_b, h.pos))))
 }
 
 /// How many numbers there are, then these.
@@ -204,14 +217,15 @@ fn counted(mut told: Told) -> Told {
     told
 }
 
-/// "an index not below the stated number of hits, or whose four numbers do not all fit in the room, gets the empty part"
+/// "an index not below the stated number of hits, or whose four numbers do not all fit in the room, gets the empty part"; else the
+/// caller's own numbers, bit for bit.
 fn oracle_hit(w: &[u64]) -> Told {
     let (room, count, i) = (w[12] as u128, w[13] as u128, w[14] as u128);
     if i >= count || 4 * i + 4 > room {
         return counted(refused(0));
     }
     let at = 4 * i as usize;
-    counted(answer((position(w, at), position(w, at + 2))))
+    counted(given((position(w, at), position(w, at + 2))))
 }
 
 // The refusals.

@@ -3,6 +3,7 @@ pub mod calls;
 pub mod cases;
 pub mod directed;
 pub mod search;
+pub mod trig_page;
 
 use std::time::Instant;
 
@@ -89,6 +90,44 @@ impl Random {
     pub fn within(&mut self, size: f64) -> f64 {
         ((self.bits() >> 11) as f64 / (1u64 << 52) as f64 - 1.0) * size
     }
+}
+
+/// Zeros, infinities, NaNs and the edges of the formats and of the rule, of both signs.
+pub fn special() -> Vec<f64> {
+    let sizes = [
+        0x0000_0000_0000_0000, // 0
+        0x0000_0000_0000_0001, // the smallest number
+        0x000f_ffff_ffff_ffff, // the largest subnormal
+        0x0010_0000_0000_0000, // the smallest normal
+        0x3e3f_ffff_ffff_ffff, // below 2^-27
+        0x3e40_0000_0000_0000, // 2^-27
+        0x3e4f_ffff_ffff_ffff, // below 2^-26
+        0x3e50_0000_0000_0000, // 2^-26
+        0x3fe0_0000_0000_0000, // 1/2
+        0x3fe9_21fb_5444_2d18, // a quarter of PI
+        0x3fef_ffff_ffff_ffff, // below 1
+        0x3ff0_0000_0000_0000, // 1
+        0x3ff0_0000_0000_0001, // above 1
+        0x3ff9_21fb_5444_2d18, // FRAC_PI_2
+        0x4000_0000_0000_0000, // 2
+        0x4002_d97c_7f33_21d2, // three quarters of PI
+        0x4009_21fb_5444_2d18, // PI
+        0x4012_d97c_7f33_21d2, // three quarters of TAU
+        0x4019_21fb_5444_2d17, // below TAU
+        0x4019_21fb_5444_2d18, // TAU
+        0x4019_21fb_5444_2d19, // above TAU
+        0x4059_0000_0000_0000, // 100
+        0x40bf_ffff_ffff_ffff, // below 8192
+        0x40c0_0000_0000_0000, // 8192
+        0x40c8_1cd6_e631_f8a1, // 12345.6789
+        0x7fe0_0000_0000_0000, // 2^1023
+        0x7fef_ffff_ffff_ffff, // the largest number
+        0x7ff0_0000_0000_0000, // infinity
+        0x7ff0_0000_0000_0001, // a signalling NaN
+        0x7ff8_0000_0000_0000, // the NaN
+        0x7fff_ffff_ffff_ffff, // the last NaN
+    ];
+    sizes.iter().flat_map(|&size| [f64::from_bits(size), f64::from_bits(size | 1 << 63)]).collect()
 }
 
 /// The seed that a command's first argument gives, or 1.

@@ -118,8 +118,8 @@ pub fn arc_radii(a: &Arc) -> Result<(f64, f64), Refusal> {
     given(|out, len| unsafe { ffi::arcs_arc_radii(n.as_ptr(), n.len(), a.marks(), out, len) }).map(|[ra, rb]| (ra, rb))
 }
 
-/// The parametric angle of a position on the curve or near it, by the radii of [`arc_radii`]. A NaN where such a radius
-/// is 0 and so is that local coordinate.
+/// The parametric angle of a position on the curve or near it, by the radii of [`arc_radii`]. The NaN 7ff8000000000000 where
+/// such a radius is 0 and so is that local coordinate.
 #[inline]
 pub fn arc_theta_of_pos(a: &Arc, p: vect2d) -> Result<f64, Refusal> {
     let n = a.numbers();

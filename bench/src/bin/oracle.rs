@@ -1,10 +1,10 @@
 //! Every public call against the oracle: the original's text, with its sine, cosine, arctangent and arccosine sent to the
 //! proved routines. `bench/run oracle [SEED [COUNT [NAME]]]`
 //!
-//! COUNT inputs a call, a fiftieth of it where a pair is searched. All that a call gives back is compared, bit for bit with
-//! one NaN: the refusal, the numbers, the counts, and every number of the lent room. Ends with 1 where anything differs.
-//! NAME, or how a name begins, chooses among the calls. The column NaN counts the answers that hold one: docs/DIFFERENCES.md
-//! lists the one call that may.
+//! COUNT inputs a call, a fiftieth of it where a pair is searched. All that a call gives back is compared, bit for bit: the
+//! refusal, the numbers, the counts, and every number of the lent room. A NaN must have the bits 7ff8000000000000. Ends with 1
+//! where anything differs. NAME, or how a name begins, chooses among the calls. The column NaN counts the answers that hold one:
+//! docs/DIFFERENCES.md lists the one call that may.
 use bench::calls::{Arcs, Call, CALLS};
 use bench::{cases::case, seed, Random, NAN};
 

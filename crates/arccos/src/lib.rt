@@ -17,5 +17,5 @@ pub fn acos(c: f64) -> f64
     if in_range(c) {
         return arctan::atan2(root::sqrt((1.0 - c) * (1.0 + c)), c);
     }
-    0.0 / 0.0
+    scalar::not_a_number()
 }

@@ -99,7 +99,7 @@ fn edge(y: f64, x: f64) -> f64
     ensures { λ r. ⌜ r ≡ edgeOf y x ⌝ }
 {
     if (y != y) | (x != x) {
-        return 0.0 / 0.0;
+        return scalar::not_a_number();
     }
     let a = edge_size(y, x);
     fixed::pick(is_negative(y), -a, a)

@@ -156,6 +156,84 @@ fn run_rooms() {
     );
 }
 
+fn print_room(words: &[u8], depth: u32, len: usize) {
+    print(words);
+    print_count(b", depth ", depth as u64);
+    print_count(b", room of ", len as u64);
+}
+
+fn ask_arcs(words: &[u8], a: Arc, b: Arc, depth: u32, room: &mut [f64]) {
+    print_room(words, depth, room.len());
+    print_hunted(b": ", arcs::intersect_arcs(a, b, depth, room));
+}
+
+fn ask_curves(words: &[u8], a: Curve, b: Curve, depth: u32, room: &mut [f64]) {
+    print_room(words, depth, room.len());
+    print_hunted(b": ", arcs::intersect(a, b, depth, room));
+}
+
+// Pairs that are solved: the need is the same at every depth.
+fn run_solved(room: &mut [f64]) {
+    let circle = whole(origin(), 1.0, false);
+    let other = whole(Point { x: 1.0, y: 0.0 }, 1.0, false);
+    let segment = Curve::Segment(-2.0, 0.0, 2.0, 0.0);
+    ask_arcs(b"two circles", circle, other, 0, room);
+    ask_curves(b"as curves", Curve::Arc(circle), Curve::Arc(other), 3, room);
+    ask_curves(
+        b"a segment and a circle",
+        segment,
+        Curve::Arc(circle),
+        0,
+        room,
+    );
+    ask_curves(
+        b"a circle and a segment",
+        Curve::Arc(circle),
+        segment,
+        3,
+        room,
+    );
+}
+
+fn run_solved_rooms() {
+    let mut need = [0.0; TWO];
+    let mut less = [0.0; TWO - 1];
+    run_solved(&mut need);
+    run_solved(&mut less);
+}
+
+fn run_searched(depth: u32, room: &mut [f64]) {
+    ask_arcs(b"P10", flange(), hole(), depth, room);
+    ask_curves(
+        b"as curves",
+        Curve::Arc(flange()),
+        Curve::Arc(hole()),
+        depth,
+        room,
+    );
+}
+
+// The need is a hit for each cell of the depth. A depth above 3 is refused before a room that is too short.
+fn run_searched_rooms() {
+    let mut need_0 = [0.0; DEPTH_0];
+    let mut less_0 = [0.0; DEPTH_0 - 1];
+    let mut need_1 = [0.0; DEPTH_1];
+    let mut less_1 = [0.0; DEPTH_1 - 1];
+    let mut need_2 = [0.0; DEPTH_2];
+    let mut less_2 = [0.0; DEPTH_2 - 1];
+    let mut need_3 = [0.0; DEPTH_3];
+    let mut less_3 = [0.0; DEPTH_3 - 1];
+    run_searched(0, &mut need_0);
+    run_searched(0, &mut less_0);
+    run_searched(1, &mut need_1);
+    run_searched(1, &mut less_1);
+    run_searched(2, &mut need_2);
+    run_searched(2, &mut less_2);
+    run_searched(3, &mut need_3);
+    run_searched(3, &mut less_3);
+    run_searched(4, &mut less_0);
+}
+
 fn flange() -> Arc {
     whole(origin(), 1000.0, true)
 }
@@ -172,30 +250,14 @@ fn hole() -> Arc {
 }
 
 fn run_gasket() {
-    let mut less = [0.0; DEPTH_0 - 1];
     let mut room = [0.0; DEPTH_0];
-    let mut twice = [0.0; DEPTH_1];
-    print_hunted(
-        b"P10, depth 0: ",
-        arcs::intersect_arcs(flange(), hole(), 0, &mut room),
-    );
-    print_hunted(
-        b"depth 1: ",
-        arcs::intersect_arcs(flange(), hole(), 1, &mut twice),
-    );
-    print_hunted(
-        b"swapped, depth 0: ",
-        arcs::intersect_arcs(hole(), flange(), 0, &mut room),
-    );
-    print_hunted(
-        b"as curves: ",
-        arcs::intersect(Curve::Arc(hole()), Curve::Arc(flange()), 0, &mut room),
-    );
-    print_count(b"room of ", (DEPTH_0 - 1) as u64);
-    print_hunted(b": ", arcs::intersect_arcs(flange(), hole(), 0, &mut less));
-    print_hunted(
-        b"depth 4: ",
-        arcs::intersect_arcs(flange(), hole(), 4, &mut less),
+    ask_arcs(b"P10 swapped", hole(), flange(), 0, &mut room);
+    ask_curves(
+        b"as curves",
+        Curve::Arc(hole()),
+        Curve::Arc(flange()),
+        0,
+        &mut room,
     );
 }
 
@@ -275,6 +337,8 @@ fn run_copying(words: &[u8], a: Arc, b: Arc, depth: u32)
 fn main() {
     run_limits();
     run_rooms();
+    run_solved_rooms();
+    run_searched_rooms();
     run_gasket();
     run_full_rooms();
     run_copying(b"P10, depth 1: ", flange(), hole(), 1);

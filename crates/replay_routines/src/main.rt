@@ -1,6 +1,8 @@
 // Replays stored answers. A row of standard input is 70 bytes: the letter of a routine, up to three
 // numbers and the answer that is right, each as 16 hex digits of its bits after one tab, and a newline.
 // It prints for each routine how many rows it had and how many of them it answers otherwise.
+// The root and the angles are asked by their exports, as C and Rust ask them. Of the exported `sin_cos` a row has the angle, how many of
+// three numbers are lent, and which of them is meant: its bits after the call are the answer; for 3 the refusal is.
 use libc::STDIN_FILENO;
 ghost use Prim.Native.Nat.{_+_, _≤_, _<_};
 use libc::STDOUT_FILENO;
@@ -26,6 +28,7 @@ struct Count {
 struct Tally {
     sin: Count,
     cos: Count,
+    sin_cos: Count,
     atan2: Count,
     acos: Count,
     sqrt: Count,
@@ -86,17 +89,32 @@ fn with_row(c: Count, same: bool) -> Count {
     }
 }
 
+// What stands where an answer is to be written: a number that no answer has.
+const UNWRITTEN: f64 = 1.0e300;
+
+// Three numbers, of which the first `len` are lent: number `asked` of them after the call, and for 3 the refusal.
+fn sin_cos(x: f64, len: u64, asked: u64) -> u64 {
+    let mut out = [UNWRITTEN; 3];
+    let lent = (len % 4) as usize;
+    let refusal = export_routines::arcs_sin_cos(x, &mut out[..lent]);
+    if asked < 3 {
+        let at = asked as usize;
+        return scalar::to_bits(out[at]);
+    }
+    refusal as u64
+}
+
 fn answer(row: Row) -> f64 {
     let x = scalar::from_bits(row.x);
     let y = scalar::from_bits(row.y);
     let z = scalar::from_bits(row.z);
     let routine = row.routine;
     match routine {
-        b'n' => sine::sin(x),
-        b'o' => sine::cos(x),
-        b't' => arctan::atan2(x, y),
-        b'r' => arccos::acos(x),
-        b's' => root::sqrt(x),
+        b'n' => export_routines::arcs_sin(x),
+        b'o' => export_routines::arcs_cos(x),
+        b't' => export_routines::arcs_atan2(x, y),
+        b'r' => export_routines::arcs_acos(x),
+        b's' => export_routines::arcs_sqrt(x),
         b'a' => scalar::abs(x),
         b'm' => scalar::min(x, y),
         b'x' => scalar::max(x, y),
@@ -105,13 +123,21 @@ fn answer(row: Row) -> f64 {
     }
 }
 
+fn word(row: Row) -> u64 {
+    if row.routine == b'b' {
+        return sin_cos(scalar::from_bits(row.x), row.y, row.z);
+    }
+    scalar::to_bits(answer(row))
+}
+
 fn with_answer(t: Tally, row: Row) -> Tally {
-    let same = scalar::to_bits(answer(row)) == row.right;
+    let same = word(row) == row.right;
     let mut next = t;
     let routine = row.routine;
     match routine {
         b'n' => next.sin = with_row(t.sin, same),
         b'o' => next.cos = with_row(t.cos, same),
+        b'b' => next.sin_cos = with_row(t.sin_cos, same),
         b't' => next.atan2 = with_row(t.atan2, same),
         b'r' => next.acos = with_row(t.acos, same),
         b's' => next.sqrt = with_row(t.sqrt, same),
@@ -147,6 +173,7 @@ fn replay() -> Tally {
     let mut t = Tally {
         sin: none,
         cos: none,
+        sin_cos: none,
         atan2: none,
         acos: none,
         sqrt: none,
@@ -172,6 +199,7 @@ fn main() {
     let t = replay();
     print_count(b"sin", t.sin);
     print_count(b"cos", t.cos);
+    print_count(b"sin_cos", t.sin_cos);
     print_count(b"atan2", t.atan2);
     print_count(b"acos", t.acos);
     print_count(b"sqrt", t.sqrt);

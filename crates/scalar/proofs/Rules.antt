@@ -1,7 +1,7 @@
 -- What the definitions of specs/ come to, rule by rule, so that they can be believed without being worked out. Assumes nothing.
 use mathlib.Core.Path.{_≡_, refl, sym, ap, _∙_, subst}
 use mathlib.Core.Logic.{_⊎_, inl, inr}
-use mathlib.Core.Bool.{Bool, true, false, not, _||_, cond}
+use mathlib.Core.Bool.{Bool, true, false, not, _||_, cond, true≢false}
 use Prim.Native.Nat.{ℕ, _%_, _^_, _<_}
 use native.Mathlib.Omega.{arith}
 use lib.IntN.{pos}
@@ -19,13 +19,21 @@ use Rattle.scalar.specs.Angles.{tau, pi, fracPi2}
 use Rattle.scalar.specs.Extremes.{minimum, maximum}
 use Rattle.scalar.specs.Clamp.{noRange, clamp}
 
--- ---- clamp
+-- ---- a NaN is below nothing, and nothing below it
+
+nan-lt : (x : Float) → lt nan x ≡ false
+unfolding lt
+nan-lt nan = refl
+nan-lt (inf s) = refl
+nan-lt (fin s m e) = refl
 
 lt-nan : (x : Float) → lt x nan ≡ false
 unfolding lt
 lt-nan nan = refl
 lt-nan (inf s) = refl
 lt-nan (fin s m e) = refl
+
+-- ---- clamp
 
 range-test : (low high : Float) (b : Bool) → le low high ≡ b → noRange low high ≡ not b
 range-test low high b h = back (noRange low high) b (sym h ∙ le-test low high)
@@ -69,6 +77,37 @@ unfolding minimum isNan
 minimum-nan nan = (refl, refl)
 minimum-nan (inf s) = (refl, refl)
 minimum-nan (fin s m e) = (refl, refl)
+
+-- As the code tests, for the minimum and the maximum alike: where the second is a NaN the first is given, and else one comparison decides, which no NaN passes.
+beside-nan : (x y z : Float) → isNan y ≡ true → cond (isNan x) y (cond (isNan y) x z) ≡ x
+unfolding isNan
+beside-nan nan nan z h = refl
+beside-nan (inf s) nan z h = refl
+beside-nan (fin s m e) nan z h = refl
+beside-nan x (inf s) z h = absurd (true≢false (sym h))
+beside-nan x (fin s m e) z h = absurd (true≢false (sym h))
+
+by-comparison : (x y : Float) (b : Bool) → isNan y ≡ false → (x ≡ nan → b ≡ false) → cond (isNan x) y (cond (isNan y) x (cond b x y)) ≡ cond b x y
+unfolding isNan
+by-comparison nan y b h n = ap (λ (c : Bool). cond c nan y) (sym (n refl))
+by-comparison (inf s) y b h n = ap (λ (c : Bool). cond c (inf s) (cond b (inf s) y)) h
+by-comparison (fin s m e) y b h n = ap (λ (c : Bool). cond c (fin s m e) (cond b (fin s m e) y)) h
+
+pub minimum-beside-nan : (x y : Float) → isNan y ≡ true → minimum x y ≡ x
+unfolding minimum
+minimum-beside-nan x y h = beside-nan x y (cond (lt x y) x y) h
+
+pub minimum-number : (x y : Float) → isNan y ≡ false → minimum x y ≡ cond (lt x y) x y
+unfolding minimum
+minimum-number x y h = by-comparison x y (lt x y) h (λ e. ap (λ (z : Float). lt z y) e ∙ nan-lt y)
+
+pub maximum-beside-nan : (x y : Float) → isNan y ≡ true → maximum x y ≡ x
+unfolding maximum
+maximum-beside-nan x y h = beside-nan x y (cond (lt y x) x y) h
+
+pub maximum-number : (x y : Float) → isNan y ≡ false → maximum x y ≡ cond (lt y x) x y
+unfolding maximum
+maximum-number x y h = by-comparison x y (lt y x) h (λ e. ap (lt y) e ∙ lt-nan y)
 
 -- of two zeros the second
 pub minimum-zeros : (s t : Bool) → minimum (fin s 0 (pos 0)) (fin t 0 (pos 0)) ≡ fin t 0 (pos 0)

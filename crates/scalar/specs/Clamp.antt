@@ -8,8 +8,8 @@ use lib.Ieee.{Float, nan, isNan, lt}
 abbrev pub noRange : Float → Float → Bool
 noRange low high = isNan low || isNan high || lt high low
 
+abbrev pub bounded : Float → Float → Float → Float
+bounded x low high = cond (lt x low) low (cond (lt high x) high x)
+
 unfoldable pub clamp : Float → Float → Float → Float
-clamp x low high =
-    cond (isNan x || noRange low high) nan
-    (cond (lt x low) low
-    (cond (lt high x) high x))
+clamp x low high = cond (isNan x || noRange low high) nan (bounded x low high)

@@ -5,7 +5,7 @@ ghost use lib.Ieee.{nan, binary64, toBits, ofBits};
 ghost use Rattle.laws.specs.Size.{abs};
 ghost use Rattle.scalar.specs.Angles.{tau, pi, fracPi2};
 ghost use Rattle.scalar.specs.Extremes.{minimum, maximum};
-ghost use Rattle.scalar.specs.Clamp.{clamp};
+ghost use Rattle.scalar.specs.Clamp.{bounded, clamp};
 
 pub const TAU: f64 = 6.283185307179586;
 
@@ -32,14 +32,15 @@ fn frac_pi_2() -> f64
     FRAC_PI_2
 }
 
-// The NaN.
+// The NaN, as bits 7ff8000000000000; nothing else makes it. The language has no bits of a NaN: `f64::from_bits` is undefined there, and a
+// constant may not be one. The compiler works this quotient out, and leaves no division to a processor whose NaN has a sign: `bench/arm` shows it.
 pub fn not_a_number() -> f64
     ensures { λ r. ⌜ r ≡ nan ⌝ }
 {
     0.0 / 0.0
 }
 
-// The number itself. A NaN comes back as the one that `not_a_number` gives: the proofs have one NaN, the machine many patterns.
+// The number itself. A NaN comes back as the one of `not_a_number`: the proofs have one NaN, the machine many patterns.
 pub fn with_one_nan(number: f64) -> f64
     ensures { λ r. ⌜ r ≡ number ⌝ }
 {
@@ -83,11 +84,8 @@ pub fn abs(x: f64) -> f64
 pub fn min(x: f64, y: f64) -> f64
     ensures { λ r. ⌜ r ≡ minimum x y ⌝ }
 {
-    if x != x {
-        return y;
-    }
     if y != y {
-        return x;
+        return with_one_nan(x);
     }
     if x < y { x } else { y }
 }
@@ -96,27 +94,31 @@ pub fn min(x: f64, y: f64) -> f64
 pub fn max(x: f64, y: f64) -> f64
     ensures { λ r. ⌜ r ≡ maximum x y ⌝ }
 {
-    if x != x {
-        return y;
-    }
     if y != y {
-        return x;
+        return with_one_nan(x);
     }
     if y < x { x } else { y }
 }
 
-// x, or the end that it lies beyond. Where the ends are no range or x is no number, the NaN.
+// x, or the end that it lies beyond.
+fn bounded(x: f64, low: f64, high: f64) -> f64
+    ensures { λ r. ⌜ r ≡ bounded x low high ⌝ }
+{
+    if x < low {
+        return low;
+    }
+    if high < x {
+        return high;
+    }
+    x
+}
+
+// Where x is no number or the ends are no range, the NaN. The test for it comes last, so that the compiler makes no branch of the others.
 pub fn clamp(x: f64, low: f64, high: f64) -> f64
     ensures { λ r. ⌜ r ≡ clamp x low high ⌝ }
 {
     if low <= high {
-        if x < low {
-            return low;
-        }
-        if high < x {
-            return high;
-        }
-        return x;
+        return with_one_nan(bounded(x, low, high));
     }
     not_a_number()
 }

@@ -1,6 +1,5 @@
 -- `arccos::acos` meets its contract. Assumes nothing.
-use mathlib.Core.Path.{refl}
-use lib.Ieee.{ofBits, ofFields, odd, div}
+use mathlib.Core.Path.{refl, _∙_}
 use borrow.Author.Needs.{needs}
 use Rattle.arccos.proofs.acos.Statement.{statement}
 use Rattle.arccos.proofs.acos.Tie as tie
@@ -9,9 +8,8 @@ returns : tie.Need-returns
 returns c = rw (c .atan2 .ensures, c .before .sqrt .ensures, ← c .before .before .before .in-range .ensures, c .before .before .if1 .taken) refl
 
 returns-2 : tie.Need-returns-2
-unfolding div ofBits ofFields odd
-returns-2 c = rw (← c .before .in-range .ensures, c .if1 .left) refl
+returns-2 c = c .not-a-number .ensures ∙ rw (← c .before .before .in-range .ensures, c .before .if1 .left) refl
 
 pub acos-spec : {M : Type 1} → statement M
 acos-spec =
-    tie.close (tie.spec (λ c κs. search needs) (λ c κs. search needs) (λ c κs. search needs) returns returns-2)
+    tie.close (tie.spec (λ c κs. search needs) (λ c κs. search needs) (λ c κs. search needs) returns (λ c κs. search needs) returns-2)

@@ -1,6 +1,5 @@
 -- `arctan::edge` meets its contract. Assumes nothing.
-use mathlib.Core.Path.{refl, sym}
-use lib.Ieee.{div, ofBits, ofFields, odd}
+use mathlib.Core.Path.{refl, sym, _∙_}
 use Rattle.arctan.proofs.Cases.{edge-nan, edge-number}
 use Rattle.laws.proofs.Tests.{ne-self}
 use borrow.Author.Needs.{needs}
@@ -8,11 +7,11 @@ use Rattle.arctan.proofs.edge.Statement.{statement}
 use Rattle.arctan.proofs.edge.Tie as tie
 
 returns : tie.Need-returns
-unfolding div ofBits ofFields odd
 returns c =
-    let y = c .before .args .y in
-    let x = c .before .args .x in
-    sym (edge-nan y x (rw (ne-self y, ne-self x) at (c .if1 .taken)))
+    let test = c .before in
+    let y = test .before .args .y in
+    let x = test .before .args .x in
+    c .not-a-number .ensures ∙ sym (edge-nan y x (rw (ne-self y, ne-self x) at (test .if1 .taken)))
 
 returns-2 : tie.Need-returns-2
 returns-2 c =
@@ -25,4 +24,4 @@ returns-2 c =
 
 pub edge-spec : {M : Type 1} → statement M
 edge-spec =
-    tie.close (tie.spec returns (λ c κs. search needs) (λ c κs. search needs) (λ c κs. search needs) returns-2)
+    tie.close (tie.spec (λ c κs. search needs) returns (λ c κs. search needs) (λ c κs. search needs) (λ c κs. search needs) returns-2)

@@ -1,25 +1,19 @@
--- `scalar::min` meets its contract: the test `x != x` is that for a NaN. Assumes nothing.
+-- `scalar::min` meets its contract: the test `y != y` is that for a NaN. Assumes nothing.
 use mathlib.Core.Path.{sym, _∙_}
-use Rattle.scalar.specs.Extremes.{minimum}
+use borrow.Author.Needs.{needs}
 use Rattle.laws.proofs.Tests.{ne-self}
+use Rattle.scalar.proofs.Rules.{minimum-beside-nan, minimum-number}
 use Rattle.scalar.proofs.min.Statement.{statement}
 use Rattle.scalar.proofs.min.Tie as tie
 
 returns : tie.Need-returns
-unfolding minimum
-returns c = simp (sym (ne-self _) ∙ c .if1 .taken)
+returns c = c .with-one-nan .ensures ∙ sym (minimum-beside-nan _ _ (sym (ne-self _) ∙ c .before .if1 .taken))
 
 returns-2 : tie.Need-returns-2
-unfolding minimum
-returns-2 c = simp (sym (ne-self _) ∙ c .before .if1 .left, sym (ne-self _) ∙ c .if2 .taken)
+returns-2 c = let a = c .before .before .args in simp (minimum-number (a .x) (a .y) (sym (ne-self _) ∙ c .before .if1 .left), c .if2 .taken)
 
 returns-3 : tie.Need-returns-3
-unfolding minimum
-returns-3 c = simp (sym (ne-self _) ∙ c .before .before .if1 .left, sym (ne-self _) ∙ c .before .if2 .left, c .if3 .taken)
-
-returns-4 : tie.Need-returns-4
-unfolding minimum
-returns-4 c = simp (sym (ne-self _) ∙ c .before .before .if1 .left, sym (ne-self _) ∙ c .before .if2 .left, c .if3 .left)
+returns-3 c = let a = c .before .before .args in simp (minimum-number (a .x) (a .y) (sym (ne-self _) ∙ c .before .if1 .left), c .if2 .left)
 
 pub min-spec : {M : Type 1} → statement M
-min-spec = tie.close (tie.spec returns returns-2 returns-3 returns-4)
+min-spec = tie.close (tie.spec (λ c κs. search needs) returns returns-2 returns-3)
