@@ -90,70 +90,62 @@ fn origin() -> Point {
     Point { x: 0.0, y: 0.0 }
 }
 
-// The distance of (x, 0) from the segment from 0 to (1, 0), and the norm of an angle.
-fn run_limits() {
+// A call brings its contract along, which is dear to check. So each is made in one place, and the cases are told to that.
+
+// The distance of a position from the segment from 0 to (1, 0).
+fn ask_distance(words: &[u8], x: f64, y: f64) {
     let one = Point { x: 1.0, y: 0.0 };
-    let last = Point {
-        x: 1048576.0,
-        y: 0.0,
-    };
-    let next = Point {
-        x: scalar::from_bits(0x4130000000000001),
-        y: 0.0,
-    };
-    let unreal = Point {
-        x: scalar::from_bits(0x7ff0000000000000),
-        y: scalar::from_bits(0x4130000000000001),
-    };
     print_number(
-        b"a coordinate of 1048576: ",
-        arcs::point_to_segment_dist(last, origin(), one),
+        words,
+        arcs::point_to_segment_dist(Point { x: x, y: y }, origin(), one),
     );
-    print_number(
-        b"the next f64: ",
-        arcs::point_to_segment_dist(next, origin(), one),
-    );
-    print_number(
+}
+
+fn ask_norm(words: &[u8], angle: f64) {
+    print_number(words, arcs::norm_tau(angle));
+}
+
+fn run_limits() {
+    let beyond = scalar::from_bits(0x4130000000000001);
+    ask_distance(b"a coordinate of 1048576: ", 1048576.0, 0.0);
+    ask_distance(b"the next f64: ", beyond, 0.0);
+    ask_distance(
         b"an infinity before it: ",
-        arcs::point_to_segment_dist(unreal, origin(), one),
+        scalar::from_bits(0x7ff0000000000000),
+        beyond,
     );
-    print_number(b"an angle of 1024: ", arcs::norm_tau(1024.0));
-    print_number(
-        b"the next f64: ",
-        arcs::norm_tau(scalar::from_bits(0x4090000000000001)),
-    );
-    print_number(
-        b"a NaN: ",
-        arcs::norm_tau(scalar::from_bits(0x7ff8000000000000)),
+    ask_norm(b"an angle of 1024: ", 1024.0);
+    ask_norm(b"the next f64: ", scalar::from_bits(0x4090000000000001));
+    ask_norm(b"a NaN: ", scalar::from_bits(0x7ff8000000000000));
+}
+
+fn ask_segments(words: &[u8], room: &mut [f64]) {
+    let a = Point { x: 2.0, y: 2.0 };
+    let b = Point { x: 0.0, y: 2.0 };
+    let c = Point { x: 2.0, y: 0.0 };
+    print_count(words, room.len() as u64);
+    print_found(b": ", arcs::intersect_segments(origin(), a, b, c, room));
+}
+
+fn ask_segment_arc(words: &[u8], room: &mut [f64]) {
+    let a = Point { x: -2.0, y: 0.0 };
+    let b = Point { x: 2.0, y: 0.0 };
+    print_count(words, room.len() as u64);
+    print_found(
+        b": ",
+        arcs::intersect_segment_arc(a, b, whole(origin(), 1.0, false), room),
     );
 }
 
 fn run_rooms() {
-    let a = Point { x: 2.0, y: 2.0 };
-    let b = Point { x: 0.0, y: 2.0 };
-    let c = Point { x: 2.0, y: 0.0 };
-    let d = Point { x: -2.0, y: 0.0 };
     let mut one_less = [0.0; HIT - 1];
     let mut one = [0.0; HIT];
     let mut two_less = [0.0; TWO - 1];
     let mut two = [0.0; TWO];
-    print_count(b"two segments, room of ", HIT as u64);
-    print_found(b": ", arcs::intersect_segments(origin(), a, b, c, &mut one));
-    print_count(b"room of ", (HIT - 1) as u64);
-    print_found(
-        b": ",
-        arcs::intersect_segments(origin(), a, b, c, &mut one_less),
-    );
-    print_count(b"a segment and a circle, room of ", TWO as u64);
-    print_found(
-        b": ",
-        arcs::intersect_segment_arc(d, c, whole(origin(), 1.0, false), &mut two),
-    );
-    print_count(b"room of ", (TWO - 1) as u64);
-    print_found(
-        b": ",
-        arcs::intersect_segment_arc(d, c, whole(origin(), 1.0, false), &mut two_less),
-    );
+    ask_segments(b"two segments, room of ", &mut one);
+    ask_segments(b"room of ", &mut one_less);
+    ask_segment_arc(b"a segment and a circle, room of ", &mut two);
+    ask_segment_arc(b"room of ", &mut two_less);
 }
 
 fn print_room(words: &[u8], depth: u32, len: usize) {
@@ -266,28 +258,26 @@ fn on_the_circle() -> Arc {
     whole(Point { x: 1.0, y: 0.0 }, 0.0, true)
 }
 
+fn run_full(depth: u32, room: &mut [f64]) {
+    let circle = whole(origin(), 1.0, false);
+    ask_arcs(
+        b"a point on the circle",
+        on_the_circle(),
+        circle,
+        depth,
+        room,
+    );
+}
+
 fn run_full_rooms() {
     let mut room = [0.0; DEPTH_0];
     let mut twice = [0.0; DEPTH_1];
     let mut more = [0.0; DEPTH_2];
     let mut most = [0.0; DEPTH_3];
-    let circle = whole(origin(), 1.0, false);
-    print_hunted(
-        b"a point on the circle, depth 0: ",
-        arcs::intersect_arcs(on_the_circle(), circle, 0, &mut room),
-    );
-    print_hunted(
-        b"depth 1: ",
-        arcs::intersect_arcs(on_the_circle(), circle, 1, &mut twice),
-    );
-    print_hunted(
-        b"depth 2: ",
-        arcs::intersect_arcs(on_the_circle(), circle, 2, &mut more),
-    );
-    print_hunted(
-        b"depth 3: ",
-        arcs::intersect_arcs(on_the_circle(), circle, 3, &mut most),
-    );
+    run_full(0, &mut room);
+    run_full(1, &mut twice);
+    run_full(2, &mut more);
+    run_full(3, &mut most);
 }
 
 fn print_bits(x: f64) {
