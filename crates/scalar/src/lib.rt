@@ -32,8 +32,9 @@ fn frac_pi_2() -> f64
     FRAC_PI_2
 }
 
-// The NaN, as bits 7ff8000000000000; nothing else makes it. The language has no bits of a NaN: `f64::from_bits` is undefined there, and a
-// constant may not be one. The compiler works this quotient out, and leaves no division to a processor whose NaN has a sign: `bench/arm` shows it.
+// The NaN, as bits 7ff8000000000000. An answer that is the NaN is made here. The language has no bits of a NaN: `f64::from_bits` is undefined
+// there, and a constant may not be one. The compiler works the quotient out and leaves no division to a processor whose NaN has a sign:
+// `bench/arm` shows it.
 pub fn not_a_number() -> f64
     ensures { λ r. ⌜ r ≡ nan ⌝ }
 {
