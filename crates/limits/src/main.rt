@@ -307,21 +307,48 @@ fn print_held(words: &[u8], h: CurveHit, g: CurveHit) {
     print(b"wrong in some number\n");
 }
 
+struct Two {
+    first: CurveHit,
+    second: CurveHit,
+}
+
+fn two_hits(room: &[f64; DEPTH_3]) -> Two {
+    Two {
+        first: hits::hit_at(room, 0),
+        second: hits::hit_at(room, 1),
+    }
+}
+
+fn ask_copying(a: Arc, b: Arc, depth: u32, room: &mut [f64])
+    requires { ⌜ depth ≤ 3 ⌝ }
+{
+    let t = copying::hunt(a, b, depth, room);
+    print_hunted(b"by copying the first bracket: ", Hunted::Counts(t));
+}
+
 // The hits of a pair, and those of the build that copies the first bracket, held against them.
 fn run_copying(words: &[u8], a: Arc, b: Arc, depth: u32)
     requires { ⌜ depth ≤ 3 ⌝ }
 {
     let mut room = [0.0; DEPTH_3];
     let mut copies = [0.0; DEPTH_3];
-    print_hunted(words, arcs::intersect_arcs(a, b, depth, &mut room));
-    let first = hits::hit_at(&room, 0);
-    let second = hits::hit_at(&room, 1);
-    print_hit(b"hit 1:", first);
-    print_hit(b"hit 2:", second);
-    let t = copying::hunt(a, b, depth, &mut copies);
-    print_hunted(b"by copying the first bracket: ", Hunted::Counts(t));
-    print_held(b"hit 1: ", first, hits::hit_at(&copies, 0));
-    print_held(b"hit 2: ", second, hits::hit_at(&copies, 1));
+    ask_arcs(words, a, b, depth, &mut room);
+    let right = two_hits(&room);
+    print_hit(b"hit 1:", right.first);
+    print_hit(b"hit 2:", right.second);
+    ask_copying(a, b, depth, &mut copies);
+    let copied = two_hits(&copies);
+    print_held(b"hit 1: ", right.first, copied.first);
+    print_held(b"hit 2: ", right.second, copied.second);
+}
+
+// P10 at depth 1, where both crossings are found, and with the hole first.
+fn run_copies() {
+    run_copying(b"P10", flange(), hole(), 1);
+    run_copying(b"P10 swapped", hole(), flange(), 0);
+    run_copying(b"P10 swapped", hole(), flange(), 1);
+    run_copying(b"P10 swapped", hole(), flange(), 2);
+    run_copying(b"P10 swapped", hole(), flange(), 3);
 }
 
 fn main() {
@@ -331,9 +358,5 @@ fn main() {
     run_searched_rooms();
     run_gasket();
     run_full_rooms();
-    run_copying(b"P10, depth 1: ", flange(), hole(), 1);
-    run_copying(b"swapped, depth 0: ", hole(), flange(), 0);
-    run_copying(b"swapped, depth 1: ", hole(), flange(), 1);
-    run_copying(b"swapped, depth 2: ", hole(), flange(), 2);
-    run_copying(b"swapped, depth 3: ", hole(), flange(), 3);
+    run_copies();
 }
