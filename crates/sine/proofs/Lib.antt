@@ -6,3 +6,4 @@ pub mod Remainders
 pub mod Shortcuts
 pub mod Cases
 pub mod Signs
+pub mod Outcome
