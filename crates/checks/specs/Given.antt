@@ -1,5 +1,5 @@
 -- 01, 'Numbers taken and numbers given back': "Coordinates, radii, parts of a direction and bulge have size at most 1,048,576; angles at most 1,024." The numbers that a call is
--- given, and what is wrong with them. Definitions only. Assumes nothing.
+-- given, and what is wrong with them.
 use mathlib.Core.Bool.{Bool, not, _||_}
 use mathlib.Core.List.{List, [], _∷_, _++_}
 use lib.Ieee.{Float, binary64, lt, ofBits}

@@ -1,6 +1,6 @@
 -- SVG 2, implementation notes, arcs: parameters that are out of range, and radii that are too small. The steps have the numbers that 000 has for them; in SVG 2 the same steps stand
 -- under B.2.5. The wording is from memory of the public document. 01: "its numbered steps, each operation rounded once in 000's order. 000's tests against 1e-12 and 1e-30 [..] are
--- listed differences; there 000 decides." Definitions only. Assumes nothing.
+-- listed differences; there 000 decides."
 use mathlib.Core.Bool.{Bool, cond, _&&_, _||_}
 use lib.Ieee.{Float, lt}
 use Rattle.laws.specs.Rounded.{_⊕_, _⊖_, _⊗_, _⊘_}

@@ -1,7 +1,7 @@
 -- SVG 2, implementation notes, arcs: "Conversion from endpoint to center parameterization". The steps have the numbers that 000 has for them; in SVG 2 the same steps stand under
 -- B.2.4. The wording is from memory of the public document. 01: "its numbered steps, each operation rounded once in 000's order. 000's tests against 1e-12 and 1e-30, its
 -- `max(0.0)` and `clamp`, and its arctangent for the start angle (SVG 2 has a signed arccosine) are listed differences; there 000 decides." sin and cos are those of the rotation
--- φ, p is (x1', y1'), c is (cx', cy'). Definitions only. Assumes nothing.
+-- φ, p is (x1', y1'), c is (cx', cy').
 use mathlib.Core.Bool.{Bool, cond, not, _&&_, Bool·beq}
 use lib.Ieee.{Float, lt, neg}
 use Rattle.laws.specs.Rounded.{_⊕_, _⊖_, _⊗_, _⊘_}

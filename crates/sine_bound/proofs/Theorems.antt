@@ -1,5 +1,5 @@
 -- THE PROMISES OF THE SINE AND THE COSINE, each as 01, 'Roots and angles', states it, for every float. `sine` and `cosine` are the
--- rule, to which the contracts of `sin`, `cos` and `sin_cos` are equal in every bit. Assumes nothing.
+-- rule, to which the contracts of `sin`, `cos` and `sin_cos` are equal in every bit.
 use mathlib.Core.Path.{_≡_, refl, sym, _∙_, ap, subst}
 use mathlib.Core.Bool.{Bool, true, false, cond, not}
 use Prim.Native.Nat.{ℕ, _*_, _≤_, _<_, _^_}
