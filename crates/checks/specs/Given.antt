@@ -32,7 +32,7 @@ tested f (g ∷ gs) = tested (record { unreal = f .unreal || unreal g; beyond = 
 abbrev pub point : Point → List Given
 point p = coordinate (p .x) ∷ coordinate (p .y) ∷ []
 
--- "All seven numbers of an arc are tested whatever its marks" (docs/DECISIONS.md)
+-- All seven numbers of an arc are tested, whatever its marks (docs/DECISIONS.md).
 abbrev pub arcNumbers : Arc → List Given
 arcNumbers a =
     coordinate (a .center .x) ∷ coordinate (a .center .y) ∷ coordinate (a .radius) ∷ coordinate (a .«radius_b») ∷ angle (a .rotation) ∷ angle (a .start) ∷ angle (a .end) ∷ []
