@@ -1,4 +1,4 @@
--- 002, `Arc::point_at`, `tangent_at`, `start_pos`, `end_pos`: a point, a tangent and the ends of an arc are those of its ellipse. Definitions only. Assumes nothing.
+-- 002, `Arc::point_at`, `tangent_at`, `start_pos`, `end_pos`: a point, a tangent and the ends of an arc are those of its ellipse.
 use lib.Ieee.{Float}
 use Rattle.curves.specs.declared.Point.{Point}
 use Rattle.curves.specs.declared.Arc.{Arc}

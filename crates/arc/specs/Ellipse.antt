@@ -1,5 +1,4 @@
--- 002, `ellipse_point` ("Point on a rotated ellipse at parametric angle `t`") and `ellipse_tangent` ("derivative of ellipse_point with respect to `t`"), operation by operation.
--- Definitions only. Assumes nothing.
+-- 002, `ellipse_point` ("Point on a rotated ellipse at parametric angle `t`") and `ellipse_tangent` ("derivative of [`ellipse_point`] with respect to `t`"), operation by operation.
 use lib.Ieee.{Float, neg}
 use Rattle.laws.specs.Rounded.{_⊕_, _⊖_, _⊗_}
 use Rattle.sine.specs.Rule.{sine, cosine}

@@ -1,5 +1,5 @@
 -- 000, `arc_radii` ("circular arcs use `radius` for both"), `arc_theta_of_pos` ("Uses the arc's local frame") and `arc_param_at_point` ("in the direction of `p` as seen from
--- the center"), operation by operation. Definitions only. Assumes nothing.
+-- the center"), operation by operation.
 use mathlib.Core.Bool.{cond}
 use lib.Ieee.{Float, neg}
 use Rattle.laws.specs.Rounded.{_⊕_, _⊖_, _⊗_, _⊘_}

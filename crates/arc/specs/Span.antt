@@ -1,5 +1,5 @@
 -- 01, 'Span and crossings': "`norm_tau` takes v % TAU and adds TAU if below 0." "A partial arc accepts an offset up to span + 1e-9, the span being the plain difference in the
--- arc's direction. The slack is past the end only." 000, `norm_tau`, `arc_param_in_span`. Definitions only. Assumes nothing.
+-- arc's direction. The slack is past the end only." 000, `norm_tau`, `arc_param_in_span`.
 use mathlib.Core.Bool.{cond}
 use lib.Ieee.{Float, binary64, rem, lt, le}
 use Rattle.laws.specs.Rounded.{_⊕_, _⊖_}

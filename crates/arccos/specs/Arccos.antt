@@ -1,4 +1,4 @@
--- The arccosine. Assumes nothing.
+-- The arccosine.
 -- 01, 'Roots and angles': "Arccosine of c in -1 to 1: the arctangent of (root of (1-c)(1+c), c)." and "the arccosine of NaN or of a number outside
 -- -1 to 1 are the NaN above."
 use mathlib.Core.Bool.{Bool, cond, _&&_}

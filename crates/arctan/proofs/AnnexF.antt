@@ -1,4 +1,4 @@
--- The rule keeps Annex F row by row, and its constants are 01's. Assumes nothing.
+-- The rule keeps Annex F row by row, and its constants are 01's.
 use mathlib.Core.Path.{_≡_, refl, sym, _∙_}
 use mathlib.Core.Bool.{Bool, true, false, cond, _||_, true≢false}
 use Prim.Native.Nat.{zero as nought, suc, _+_, _*_}

@@ -1,4 +1,4 @@
--- The rule of the arctangent case by case. Assumes nothing.
+-- The rule of the arctangent case by case.
 use mathlib.Core.Path.{_≡_, refl, sym, _∙_}
 use mathlib.Core.Bool.{true, false, cond, _&&_, _||_}
 use lib.Dec.{T}

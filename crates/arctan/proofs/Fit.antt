@@ -1,4 +1,4 @@
--- Each row of the table is of a size that the steps of the series take. Assumes nothing.
+-- Each row of the table is of a size that the steps of the series take.
 use mathlib.Core.Path.{_≡_, refl, sym, subst}
 use mathlib.Core.Bool.{Bool, true, false, _&&_}
 use mathlib.Core.List.{List, [], _∷_}

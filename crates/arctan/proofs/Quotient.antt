@@ -1,4 +1,4 @@
--- Where x is above 0 and y / x is below 2 ^ -26 in size, y / x is the arctangent, for every y and x, and has the sign of y. Assumes nothing.
+-- Where x is above 0 and y / x is below 2 ^ -26 in size, y / x is the arctangent, for every y and x, and has the sign of y.
 use mathlib.Core.Path.{_≡_, refl, sym, _∙_, ap}
 use mathlib.Core.Bool.{Bool, true, false, cond, _&&_, true≢false}
 use Prim.Native.Nat.{ℕ, zero as nought, suc, _*_, _^_, _<_}

@@ -1,4 +1,4 @@
--- The smaller size over the larger, rounded, is a number from 0 to 1. Assumes nothing.
+-- The smaller size over the larger, rounded, is a number from 0 to 1.
 use mathlib.Core.Path.{_≡_, refl, sym, _∙_, subst}
 use mathlib.Core.Logic.{_⊎_, inl, inr, ⊎-elim}
 use mathlib.Core.Bool.{Bool, true, false, not, cond, _&&_, _||_, true≢false}

@@ -1,4 +1,4 @@
--- What the code holds, by the rule's names: a and b are the sizes of x and y, low the smaller and high the larger. Assumes nothing.
+-- What the code holds, by the rule's names: a and b are the sizes of x and y, low the smaller and high the larger.
 use mathlib.Core.Path.{_≡_, refl}
 use mathlib.Core.Bool.{Bool, not, cond, _&&_}
 use lib.Ieee.{Float, binary64, div, lt, le}

@@ -1,4 +1,4 @@
--- That y / x is below 2 ^ -26 in size, with x above 0, is seen from u, which the code has at hand. Assumes nothing.
+-- That y / x is below 2 ^ -26 in size, with x above 0, is seen from u, which the code has at hand.
 use mathlib.Core.Path.{_≡_, refl, sym, _∙_, ap, subst}
 use mathlib.Core.Bool.{Bool, true, false, not, cond, _&&_, _||_, true≢false}
 use mathlib.Core.Logic.{inl, ⊎-elim}

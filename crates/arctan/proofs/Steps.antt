@@ -1,4 +1,4 @@
--- The steps of the series in whole numbers: how near `rough` is to the product, and the sizes that keep every number below 2 ^ 64. Assumes nothing.
+-- The steps of the series in whole numbers: how near `rough` is to the product, and the sizes that keep every number below 2 ^ 64.
 use mathlib.Core.Path.{_≡_, refl, _∙_, ap}
 use mathlib.Core.Bool.{Bool, true, false}
 use Prim.Native.Nat.{ℕ, _+_, _*_, _/_, _%_, _≤_}

@@ -1,4 +1,4 @@
--- One test of the smaller and the larger size says that neither number is 0, an infinity or a NaN. Assumes nothing.
+-- One test of the smaller and the larger size says that neither number is 0, an infinity or a NaN.
 use mathlib.Core.Path.{_≡_, refl, sym, _∙_, subst}
 use mathlib.Core.Logic.{⊎-elim}
 use mathlib.Core.Bool.{Bool, true, false, not, cond, _&&_, _||_, true≢false}

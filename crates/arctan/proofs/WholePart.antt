@@ -1,4 +1,4 @@
--- The whole part of 2 ^ 62 u is exact, its upper digits are the whole part j of 32 u, and its other 57 digits are u - j / 32 to within 2 ^ -62. Assumes nothing.
+-- The whole part of 2 ^ 62 u is exact, its upper digits are the whole part j of 32 u, and its other 57 digits are u - j / 32 to within 2 ^ -62.
 use mathlib.Core.Path.{_≡_, refl, sym, _∙_, ap, subst}
 use mathlib.Core.Logic.{⊎-elim}
 use mathlib.Core.Bool.{true, false, not}

@@ -1,4 +1,4 @@
--- C's Annex F, F.10.1.4, row by row, and the NaNs: what a function atan2 does with zeros and infinities. Assumes nothing.
+-- C's Annex F, F.10.1.4, row by row, and the NaNs: what a function atan2 does with zeros and infinities.
 -- 01, 'Roots and angles': "Zeros and infinities as Annex F, a quarter of PI being exact and three quarters being 3 times that, rounded once."
 -- proofs/AnnexF.antt proves it of the rule.
 use mathlib.Core.Path.{_≡_}

@@ -1,4 +1,4 @@
--- The rows of the table as the code holds them, in units of 2 ^ -61. Definitions only.
+-- The rows of the table as the code holds them, in units of 2 ^ -61.
 use Prim.Native.Nat.{ℕ, _+_, _-_, _*_, _^_, min}
 use Rattle.arctan_table.specs.Table.{Coef, more, less, Coefs, coefsAt}
 use Rattle.arctan.specs.declared.table.Row.{Row}

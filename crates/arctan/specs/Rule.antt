@@ -1,4 +1,4 @@
--- The rule of the arctangent of (y, x), operation by operation: docs/TRIG.md in the language of the proofs. Assumes nothing.
+-- The rule of the arctangent of (y, x), operation by operation: docs/TRIG.md in the language of the proofs.
 -- 01, 'Roots and angles': "One fixed-point rule for the series goes into docs/TRIG.md; the routines equal it in every bit."
 use mathlib.Core.Bool.{Bool, cond, _&&_, _||_}
 use Prim.Native.Nat.{ℕ, _+_, _-_, _*_, _/_, _%_, _^_}

@@ -1,4 +1,4 @@
--- The sizes that the contracts of the code ask for, so that every whole number of the rule stays below 2 ^ 64. Assumes nothing.
+-- The sizes that the contracts of the code ask for, so that every whole number of the rule stays below 2 ^ 64.
 use mathlib.Core.Bool.{true, false}
 use Prim.Native.Nat.{ℕ, _*_, _^_, _≤_}
 use lib.Ieee.{Float, nan, inf, fin, up, down}

@@ -1,4 +1,4 @@
--- A slight quotient is its own arctangent. Assumes nothing.
+-- A slight quotient is its own arctangent.
 -- 01, 'Roots and angles': "If x is above 0 and y/x is below 2^-26 in size, it is y/x."
 -- 01 leaves open what y/x is where it underflows: here it is the quotient, rounded once, which may be subnormal or a zero; it has the sign of y.
 use mathlib.Core.Path.{_≡_}

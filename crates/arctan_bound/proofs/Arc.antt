@@ -1,4 +1,4 @@
--- The rule's arctangent of u, from 0 to 1, is within 88 * 2 ^ -53 of the sum of the first 64 terms of Euler's series. Assumes nothing.
+-- The rule's arctangent of u, from 0 to 1, is within 88 * 2 ^ -53 of the sum of the first 64 terms of Euler's series.
 use mathlib.Core.Path.{_≡_, refl, sym, _∙_, ap, subst}
 use mathlib.Core.Bool.{false}
 use mathlib.Core.List.{List, [], _∷_}

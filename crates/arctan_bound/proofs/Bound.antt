@@ -1,4 +1,4 @@
--- THE BOUND: the rule's answer is within 2 ^ -44 of the exact angle. Assumes nothing.
+-- THE BOUND: the rule's answer is within 2 ^ -44 of the exact angle.
 use mathlib.Core.Path.{_≡_, refl, sym, _∙_, ap, subst}
 use mathlib.Core.Bool.{Bool, true, false, not, cond, _&&_, true≢false}
 use Prim.Native.Nat.{ℕ, _+_, _-_, _*_, _/_, _≤_, _<_, _^_}

@@ -1,4 +1,4 @@
--- A whole number n at 2 ^ 61 as a binary64 number: rounded, then times 2 ^ -61, it is within 16 * 2 ^ -53 of n / 2 ^ 61, for n up to 15 / 4. Assumes nothing.
+-- A whole number n at 2 ^ 61 as a binary64 number: rounded, then times 2 ^ -61, it is within 16 * 2 ^ -53 of n / 2 ^ 61, for n up to 15 / 4.
 use mathlib.Core.Path.{_≡_, refl, sym, _∙_, ap, subst}
 use mathlib.Core.Bool.{true, false, true≢false}
 use Prim.Native.Nat.{ℕ, _+_, _*_, _≤_, _<_, _^_}

@@ -1,4 +1,4 @@
--- Horner's scheme in whole numbers against the exact polynomial: at 2 ^ 61, with products that are cut, it is within 292. Assumes nothing.
+-- Horner's scheme in whole numbers against the exact polynomial: at 2 ^ 61, with products that are cut, it is within 292.
 use mathlib.Core.Path.{_≡_, sym, _∙_, ap}
 use Prim.Native.Nat.{ℕ, suc, _+_, _-_, _*_, _≤_, _^_}
 use native.Mathlib.Nat.{mul-add, add-mul, mul-assoc, mul-comm, mul-left-comm, mul-right-comm, mul-one, mul-le-mul-left, mul-le-mul-right, pow-zero, pow-suc}

@@ -1,4 +1,4 @@
--- The exact value that the arctangent is held against, in whole numbers alone, and how near the answer is to it. Assumes nothing.
+-- The exact value that the arctangent is held against, in whole numbers alone, and how near the answer is to it.
 -- 01, 'Roots and angles': "Arctangent of (y, x): u is the smaller size divided by the larger, rounded once. The exact value A is the sum of the first 64
 -- terms of Euler's series [..]. FRAC_PI_2 - A when y is the larger in size, then PI minus that when x is negative, then the sign of y. The answer is within
 -- 2^-44 of this."

@@ -1,5 +1,4 @@
 -- A cell's law: the quotient of two polynomials, top and bottom, against a short one, kp - km, from the point j to j + 1, by what is computed of their coefficients.
--- Assumes nothing.
 use mathlib.Core.Path.{_≡_, refl, sym, _∙_}
 use mathlib.Core.List.{List}
 use Prim.Native.Nat.{ℕ, suc, _+_, _*_, _-_, _≤_, _^_}

@@ -1,4 +1,4 @@
--- Euler's series, summed term by term, is the quotient of the two polynomials. Assumes nothing.
+-- Euler's series, summed term by term, is the quotient of the two polynomials.
 use mathlib.Core.Path.{_≡_, refl, sym, _∙_, ap, subst}
 use mathlib.Core.Bool.{Bool, true, _&&_}
 use mathlib.Core.List.{List, [], _∷_}

@@ -1,4 +1,4 @@
--- Euler's series as a quotient of two polynomials of v = 32 u, with whole coefficients. Assumes nothing.
+-- Euler's series as a quotient of two polynomials of v = 32 u, with whole coefficients.
 use mathlib.Core.List.{List, [], _∷_}
 use Prim.Native.Nat.{ℕ, zero, suc, _+_, _*_, _/_}
 use Rattle.series.specs.Poly.{plus, scale, times}

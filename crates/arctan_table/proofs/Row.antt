@@ -1,4 +1,4 @@
--- The law of one row of the table: over its cell it is within 2 ^ -47 of Euler's series. Assumes nothing.
+-- The law of one row of the table: over its cell it is within 2 ^ -47 of Euler's series.
 use mathlib.Core.Path.{_≡_, refl, subst}
 use mathlib.Core.List.{List, [], _∷_}
 use Prim.Native.Nat.{ℕ, zero, suc, _+_, _*_, _≤_, _<_, _^_}

@@ -1,4 +1,4 @@
--- Each row of the table against Euler's series, over its whole cell. Assumes nothing.
+-- Each row of the table against Euler's series, over its whole cell.
 use mathlib.Core.Path.{_≡_, refl, sym, _∙_, subst}
 use mathlib.Core.Logic.{⊎-elim}
 use mathlib.Core.Bool.{Bool, true, _&&_}

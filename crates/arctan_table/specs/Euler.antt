@@ -1,4 +1,4 @@
--- Euler's series of the arctangent at the fraction u = a / b, as fractions of whole numbers. Definitions only.
+-- Euler's series of the arctangent at the fraction u = a / b, as fractions of whole numbers.
 -- 01, 'Roots and angles': "The exact value A is the sum of the first 64 terms of Euler's series, term n being 4^n (n!)^2 / (2n+1)! times
 -- u^(2n+1) / (1+u^2)^(n+1)."
 use Prim.Native.Nat.{ℕ, zero, suc, _+_, _*_, _^_}

@@ -1,5 +1,5 @@
 -- The arctangent's table, written by crates/arctan_table/tools/table.py: in row j, from 0 to 32, the first ten coefficients of Taylor's series of the arctangent at j / 32,
--- each the nearest multiple of 2 ^ -53. Definitions only.
+-- each the nearest multiple of 2 ^ -53.
 use mathlib.Core.List.{List, [], _∷_}
 use Prim.Native.Nat.{ℕ}
 use lib.ListN.{getD}

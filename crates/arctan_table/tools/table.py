@@ -33,7 +33,7 @@ for j, r in enumerate(rows):
 code += "    }\n}\n"
 
 spec = """-- The arctangent's table, written by crates/arctan_table/tools/table.py: in row j, from 0 to 32, the first ten coefficients of Taylor's series of the arctangent at j / 32,
--- each the nearest multiple of 2 ^ -53. Definitions only.
+-- each the nearest multiple of 2 ^ -53.
 use mathlib.Core.List.{List, [], _∷_}
 use Prim.Native.Nat.{ℕ}
 use lib.ListN.{getD}
@@ -64,7 +64,7 @@ for path, text in (("arctan/src/table.rt", code), ("arctan_table/specs/Table.ant
         f.write(text)
 
 proof = """-- `arctan::table::look` meets its contract: each arm is the row of its number, and past the arms the number is the last row's or above.
--- Written by crates/arctan_table/tools/table.py. Assumes nothing.
+-- Written by crates/arctan_table/tools/table.py.
 use mathlib.Core.Path.{_≡_, refl}
 use Prim.Native.Nat.{ℕ}
 use native.Mathlib.Nat.{min-eq-right}

@@ -1,4 +1,4 @@
--- NO SECOND OUTCOME of the calls of parts 7 to 9: an answer is fixed by what it tells. Assumes nothing.
+-- NO SECOND OUTCOME of the calls of parts 7 to 9: an answer is fixed by what it tells.
 use mathlib.Core.Path.{_≡_, refl, sym, ap, _∙_}
 use mathlib.Core.Bool.{Bool, true, false}
 use Prim.Native.Nat.{ℕ}

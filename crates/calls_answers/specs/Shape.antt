@@ -1,5 +1,5 @@
 -- 01, 'Forms': "If an answer is an enum, a definition states this paper's number and values for each of the enum's cases." 01, the table of refusals: 5 "the Rust answers `None` in arc
--- conversion, three-point arc, tangent circle or conic fit". The mark ccw is a count, 1 or 0. Definitions only. Assumes nothing.
+-- conversion, three-point arc, tangent circle or conic fit". The mark ccw is a count, 1 or 0.
 use Prim.Native.Nat.{ℕ}
 use mathlib.Core.Bool.{Bool, cond}
 use mathlib.Core.List.{List, [], _∷_}

@@ -1,4 +1,4 @@
--- NO SECOND OUTCOME of a call with a room. Assumes nothing.
+-- NO SECOND OUTCOME of a call with a room.
 use mathlib.Core.Path.{_≡_}
 use mathlib.Core.List.{List}
 use Prim.Native.Nat.{ℕ}

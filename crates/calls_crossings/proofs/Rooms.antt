@@ -1,4 +1,4 @@
--- The promise of a call with a room: how code comes to it, and that it has one outcome. Assumes nothing.
+-- The promise of a call with a room: how code comes to it, and that it has one outcome.
 use mathlib.Core.Path.{_≡_, refl, sym, _∙_}
 use mathlib.Core.Bool.{true, false, _||_}
 use mathlib.Core.List.{List, []}

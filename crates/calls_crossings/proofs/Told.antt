@@ -1,4 +1,4 @@
--- What the contract of a call with a depth tells of an answer: back from `crossed-done` and `crossed-refused`. Assumes nothing.
+-- What the contract of a call with a depth tells of an answer: back from `crossed-done` and `crossed-refused`.
 use mathlib.Core.Path.{_≡_, refl, sym, ap, _∙_}
 use mathlib.Core.Bool.{Bool, true, false}
 use mathlib.Core.List.{List}

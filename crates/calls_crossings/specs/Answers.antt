@@ -1,5 +1,5 @@
 -- 01, 'What a caller may conclude': "Each public call's contract determines the result and all numbers in the room afterwards, refusals too". What each call with a room answers, by the
--- call's name. Definitions only. Assumes nothing.
+-- call's name.
 use Prim.Native.Nat.{ℕ}
 use mathlib.Core.Bool.{false}
 use mathlib.Core.List.{List, [], _∷_, _++_}

@@ -1,5 +1,5 @@
 -- 01, 'Numbers taken and numbers given back': "A refusal returns its number and no other value, and the room keeps all its old numbers. A pair without crossings answers zero hits."
--- "Numbers after the hits stay as lent." The promise of every call with a room, as one relation. Definitions only. Assumes nothing.
+-- "Numbers after the hits stay as lent." The promise of every call with a room, as one relation.
 use Prim.Native.Nat.{ℕ}
 use mathlib.Core.Path.{_≡_}
 use mathlib.Core.Bool.{cond}

@@ -1,4 +1,4 @@
--- 000, `intersect_arcs`: "Circle-circle goes through the closed-form two-circle construction; any pair involving an ellipse falls back to sampling". Definitions only. Assumes nothing.
+-- 000, `intersect_arcs`: "Circle-circle goes through the closed-form two-circle construction; any pair involving an ellipse falls back to sampling".
 use Prim.Native.Nat.{ℕ}
 use mathlib.Core.Bool.{cond, _||_}
 use mathlib.Core.List.{List, []}

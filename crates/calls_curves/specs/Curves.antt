@@ -1,5 +1,5 @@
 -- 01, 'The program arcdesk and its lines': "A curve is either a segment's four numbers or an arc's record." Its query goes by the two cases; for an arc against a segment the segment's
--- call is made and the parameters are exchanged. Definitions only. Assumes nothing.
+-- call is made and the parameters are exchanged.
 use Prim.Native.Nat.{ℕ}
 use mathlib.Core.List.{_++_}
 use Rattle.curves.specs.At.{at}

@@ -1,5 +1,4 @@
 -- 01, 'What a caller may conclude': "Each public call's contract determines the result". The answer of each call that gives back one number or two, by the call's name.
--- Definitions only. Assumes nothing.
 use mathlib.Core.List.{List, [], _∷_, _++_}
 use lib.Ieee.{Float}
 use Rattle.curves.specs.declared.Point.{Point}

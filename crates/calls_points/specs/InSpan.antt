@@ -1,4 +1,4 @@
--- 01, the table of refusals: 6 "`arc_param_in_span` answers `None`: the angle is outside a partial arc's span, slack included". Definitions only. Assumes nothing.
+-- 01, the table of refusals: 6 "`arc_param_in_span` answers `None`: the angle is outside a partial arc's span, slack included".
 use Prim.Native.Nat.{ℕ}
 use lib.Ieee.{Float}
 use Rattle.laws.specs.Literal.{zero}

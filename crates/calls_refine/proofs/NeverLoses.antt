@@ -1,5 +1,5 @@
 -- DEMAND 3 UP TO THE CALL, in the words of specs/NeverLoses.antt: of two answers of `intersect_arcs` that are no refusals, where an ellipse takes part. That the angles are within their
--- limits and that the depths are at most 3 is had from the answers. Assumes nothing.
+-- limits and that the depths are at most 3 is had from the answers.
 use mathlib.Core.Path.{_≡_}
 use mathlib.Core.Bool.{true, false, _||_}
 use Prim.Native.Nat.{ℕ, _≤_}

@@ -1,4 +1,4 @@
--- What it tells that `intersect_arcs` does not refuse: the depth is at most 3, a's angles are within their limits, and the brackets of the answer are the hunt's. Assumes nothing.
+-- What it tells that `intersect_arcs` does not refuse: the depth is at most 3, a's angles are within their limits, and the brackets of the answer are the hunt's.
 use mathlib.Core.Path.{_≡_, refl, ap, _∙_}
 use mathlib.Core.Bool.{true, _||_}
 use mathlib.Core.List.{List, _++_, List·Memᴰ, List·Memᴰ·head, List·Memᴰ·tail}

@@ -1,5 +1,5 @@
 -- 01, 'What a caller may conclude': "Each public call's contract determines the result and all numbers in the room afterwards, refusals too". An answer of `intersect_arcs` that is no
--- refusal, by that call's own contract. Definitions only. Assumes nothing.
+-- refusal, by that call's own contract.
 use Prim.Native.Nat.{ℕ}
 use mathlib.Core.List.{List}
 use lib.Ieee.{Float}

@@ -1,6 +1,6 @@
 -- Demand 3: "if every inside-outside value that the two hunts work out is zero or of size 2^-53 to 2^200, each cell where the coarser brackets a crossing contains a cell where the
 -- finer does; brackets never grow fewer; each, once narrowed, lies in its own cell and still has ends of opposite sign or an end at zero." Here of the counts t and t' that two answers
--- of `intersect_arcs` to one pair of arcs tell, at the depths k and k'. Definitions only. Assumes nothing.
+-- of `intersect_arcs` to one pair of arcs tell, at the depths k and k'.
 use Prim.Native.Nat.{ℕ, _≤_}
 use mathlib.Core.Bool.{false}
 use mathlib.Core.Path.{_≡_}

@@ -1,4 +1,4 @@
--- 01, 'What a caller may conclude': "Each public call's contract determines the result". The answer of each call of parts 7 to 9, by the call's name. Definitions only. Assumes nothing.
+-- 01, 'What a caller may conclude': "Each public call's contract determines the result". The answer of each call of parts 7 to 9, by the call's name.
 use mathlib.Core.Bool.{Bool}
 use mathlib.Core.List.{List, [], _∷_, _++_}
 use lib.Ieee.{Float}

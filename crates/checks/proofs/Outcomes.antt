@@ -1,4 +1,4 @@
--- NO SECOND OUTCOME: an answer is fixed by what it tells, so that a contract on what is told fixes the answer. Assumes nothing.
+-- NO SECOND OUTCOME: an answer is fixed by what it tells, so that a contract on what is told fixes the answer.
 use mathlib.Core.Path.{_≡_, refl, sym, ap, _∙_}
 use mathlib.Core.List.{List, [], _∷_}
 use Prim.Native.Nat.{ℕ}

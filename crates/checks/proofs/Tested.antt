@@ -1,4 +1,4 @@
--- The tests of a call's numbers, over the whole list of them, and what it tells that a call is not refused. Assumes nothing.
+-- The tests of a call's numbers, over the whole list of them, and what it tells that a call is not refused.
 use mathlib.Core.Path.{_≡_, refl, ap, _∙_}
 use mathlib.Core.Bool.{Bool, true, false, _||_, cond}
 use mathlib.Core.List.{List, [], _∷_, _++_}

@@ -1,4 +1,4 @@
--- What no refusal tells of a number that the call was given: its size is within its limit. Assumes nothing.
+-- What no refusal tells of a number that the call was given: its size is within its limit.
 use mathlib.Core.Path.{_≡_, sym, ap, _∙_, subst}
 use mathlib.Core.Logic.{_⊎_, inl, inr}
 use mathlib.Core.Bool.{Bool, false, not}

@@ -1,5 +1,4 @@
 -- 01, 'Forms': "If an answer is an enum, a definition states this paper's number and values for each of the enum's cases." And: "A refusal returns its number and no other value".
--- Definitions only. Assumes nothing.
 use Prim.Native.Nat.{ℕ}
 use mathlib.Core.Bool.{cond}
 use mathlib.Core.List.{List, [], _∷_}

@@ -1,5 +1,5 @@
 -- 01, 'Numbers taken and numbers given back': "Coordinates, radii, parts of a direction and bulge have size at most 1,048,576; angles at most 1,024." The numbers that a call is
--- given, and what is wrong with them. Definitions only. Assumes nothing.
+-- given, and what is wrong with them.
 use mathlib.Core.Bool.{Bool, not, _||_}
 use mathlib.Core.List.{List, [], _∷_, _++_}
 use lib.Ieee.{Float, binary64, lt, ofBits}
@@ -32,7 +32,7 @@ tested f (g ∷ gs) = tested (record { unreal = f .unreal || unreal g; beyond = 
 abbrev pub point : Point → List Given
 point p = coordinate (p .x) ∷ coordinate (p .y) ∷ []
 
--- "All seven numbers of an arc are tested whatever its marks" (docs/DECISIONS.md)
+-- All seven numbers of an arc are tested, whatever its marks (docs/DECISIONS.md).
 abbrev pub arcNumbers : Arc → List Given
 arcNumbers a =
     coordinate (a .center .x) ∷ coordinate (a .center .y) ∷ coordinate (a .radius) ∷ coordinate (a .«radius_b») ∷ angle (a .rotation) ∷ angle (a .start) ∷ angle (a .end) ∷ []

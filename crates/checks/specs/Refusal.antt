@@ -1,7 +1,7 @@
 -- 01, 'Numbers taken and numbers given back', the table of refusals: 1 "some number is NaN or infinite", 2 "some number is beyond its limit", 3 "depth above 3 (arc pairs, and every
 -- query line)", 4 "the lent room is shorter than the need", 5 "the Rust answers `None` in arc conversion, three-point arc, tangent circle or conic fit", 6 "`arc_param_in_span` answers
 -- `None`", and of `arcdesk` 7 "malformed line", 8 "record number not in the table", 9 "a 65th record". "A call tests 1 over all its numbers (not those already in the lent room), then
--- 2, 3, 4, then the rest." Definitions only. Assumes nothing.
+-- 2, 3, 4, then the rest."
 use Prim.Native.Nat.{ℕ}
 use mathlib.Core.Bool.{Bool, false, cond}
 use mathlib.Core.List.{List}

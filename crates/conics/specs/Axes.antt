@@ -1,5 +1,5 @@
 -- 001: "Extract ellipse parameters from conic matrix". "Center: solve [A, B/2; B/2, C] * [cx; cy] = -[D/2; E/2]". "Eigenvalues of [[A, B], [B, C]] give 1/rx^2 and 1/ry^2 (up to
--- scale)". "Rotation: eigenvector of [[A, B], [B, C]] for ev1". Definitions only. Assumes nothing.
+-- scale)". "Rotation: eigenvector of [[A, B], [B, C]] for ev1".
 use mathlib.Core.Bool.{Bool, cond, _||_}
 use lib.Ieee.{Float, neg, lt, le}
 use Rattle.laws.specs.Rounded.{_⊕_, _⊖_, _⊗_, _⊘_}

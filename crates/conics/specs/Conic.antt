@@ -1,5 +1,5 @@
 -- 001: "The family of conics tangent to lines L1 at p1 and L2 at p2 is: L1*L2 + lambda * M^2 = 0 where M is the chord line through p1, p2." "Build conic matrix": its entry i, j is
--- `(l1v[i] * l2v[j] + l2v[i] * l1v[j]) / 2.0 + lambda * mv[i] * mv[j]`. Definitions only. Assumes nothing.
+-- `(l1v[i] * l2v[j] + l2v[i] * l1v[j]) / 2.0 + lambda * mv[i] * mv[j]`.
 use Prim.Native.Nat.{ℕ}
 use mathlib.Core.List.{List}
 use lib.Ieee.{Float, neg}

@@ -1,5 +1,5 @@
 -- 001: "Tangent lines in ax + by + c = 0 form (line through p_i with direction t_i)". "Normalize m so that m(point) gives signed distance * chord_len". A line is the list of a, b
--- and c. Definitions only. Assumes nothing.
+-- and c.
 use Prim.Native.Nat.{ℕ}
 use mathlib.Core.List.{List, [], _∷_}
 use lib.ListN.{getD}

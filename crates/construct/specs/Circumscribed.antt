@@ -1,5 +1,5 @@
 -- 000, `circumscribed_arc`: "Compute circumscribed circle arc from 3 points (start, end, mid on arc). Returns (center, radius, start_angle, end_angle, ccw) or None if collinear.
--- `ccw` is true if the arc from p1 to p2 passing through p3 goes counter-clockwise." Operation by operation. Definitions only. Assumes nothing.
+-- `ccw` is true if the arc from p1 to p2 passing through p3 goes counter-clockwise." Operation by operation.
 use mathlib.Core.Bool.{cond}
 use lib.Ieee.{Float, lt}
 use Rattle.laws.specs.Rounded.{_⊕_, _⊖_, _⊗_, _⊘_}

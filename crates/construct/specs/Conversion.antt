@@ -1,5 +1,5 @@
--- 000, `svg_arc_to_center`: "Given start/end points, radii, rotation, and arc selection flags, returns (center, start_angle, end_angle, rx, ry) or None if degenerate." SVG 2's
--- steps, in 000's order. Definitions only. Assumes nothing.
+-- 000, `svg_arc_to_center`: "Given start/end points, radii, rotation, and arc selection flags, returns (center, start_angle, end_angle, rx, ry) or None if degenerate." The
+-- steps of SVG 2, in 000's order.
 use mathlib.Core.Bool.{Bool, cond}
 use lib.Ieee.{Float, neg}
 use Rattle.laws.specs.Rounded.{_⊕_}

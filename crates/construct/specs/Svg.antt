@@ -1,7 +1,6 @@
--- SVG 2, implementation notes, arcs: "Conversion from endpoint to center parameterization". The steps have the numbers that 000 has for them; in SVG 2 the same steps stand under
--- B.2.4. The wording is from memory of the public document. 01: "its numbered steps, each operation rounded once in 000's order. 000's tests against 1e-12 and 1e-30, its
--- `max(0.0)` and `clamp`, and its arctangent for the start angle (SVG 2 has a signed arccosine) are listed differences; there 000 decides." sin and cos are those of the rotation
--- φ, p is (x1', y1'), c is (cx', cy'). Definitions only. Assumes nothing.
+-- SVG 2, implementation notes, arcs: from the ends of an arc to its center. SVG 2 itself was not at hand: the formulas are 000's, and a number F.6.x is that of 000's comment. 01: "its
+-- numbered steps, each operation rounded once in 000's order. 000's tests against 1e-12 and 1e-30, its `max(0.0)` and `clamp`, and its arctangent for the start angle (SVG 2 has a signed
+-- arccosine) are listed differences; there 000 decides." sin and cos are those of the rotation φ, p is (x1', y1'), c is (cx', cy').
 use mathlib.Core.Bool.{Bool, cond, not, _&&_, Bool·beq}
 use lib.Ieee.{Float, lt, neg}
 use Rattle.laws.specs.Rounded.{_⊕_, _⊖_, _⊗_, _⊘_}
@@ -36,7 +35,7 @@ quotientRoot p r =
     let den = rx2 ⊗ y2 ⊕ ry2 ⊗ x2 in
     cond (lt (abs den) ten⁻³⁰) zero (squareRoot (num ⊘ den))
 
--- F.6.5.2, the sign: "where the + sign is chosen if fA ≠ fS, and the - sign is chosen if fA = fS".
+-- F.6.5.2, the sign: + where the flags of a large arc and of the sweep differ, - where they are alike.
 unfoldable pub sign : Bool → Bool → Float
 sign large sweep = cond (Bool·beq large sweep) (neg one) one
 
@@ -54,7 +53,7 @@ turnedBack p1 p2 sin cos c =
     let my = (p1 .y ⊕ p2 .y) ⊘ two in
     record { x = cos ⊗ c .x ⊖ sin ⊗ c .y ⊕ mx; y = sin ⊗ c .x ⊕ cos ⊗ c .y ⊕ my }
 
--- F.6.5.4: the angle of u to v is ± arccos(u·v / (|u| |v|)), its sign that of ux vy - uy vx; where that is 0, 000 takes the +. A listed difference: 000
+-- For F.6.5.5-6: the angle of u to v is ± arccos(u·v / (|u| |v|)), its sign that of ux vy - uy vx; where that is 0, 000 takes the +. A listed difference: 000
 -- clamps the cosine to -1..1.
 unfoldable pub angle : Point → Point → Float
 angle u v =
@@ -64,16 +63,16 @@ angle u v =
     let cross = u .x ⊗ v .y ⊖ u .y ⊗ v .x in
     cond (lt cross zero) (neg a) a
 
--- F.6.5.5 and F.6.5.6, the vectors from the center: ((x1' - cx') / rx, (y1' - cy') / ry).
+-- F.6.5.5-6, the vectors from the center: ((x1' - cx') / rx, (y1' - cy') / ry).
 unfoldable pub scaled : Point → Point → Radii → Point
 scaled p c r = record { x = (p .x ⊖ c .x) ⊘ r .a; y = (p .y ⊖ c .y) ⊘ r .b }
 
--- F.6.5.5: θ1 is the angle of (1, 0) to the vector u of the start. A listed difference: 000 takes the arctangent.
+-- F.6.5.5-6: "compute start angle", the angle of (1, 0) to the vector u of the start. A listed difference: 000 takes the arctangent.
 abbrev pub startAngle : Point → Float
 startAngle u = arctangent (u .y) (u .x)
 
--- F.6.5.6: Δθ is the angle of the start's vector to the end's, where "if fS = 0 and the right side is greater than 0, then subtract 360°, whereas if fS = 1 and the right side is
--- less than 0, then add 360°. In all other cases leave it as is."
+-- 000: "Adjust sweep for sweep flag". Δθ is the angle of the start's vector to the end's: a turn less where the flag is not set and Δθ is above 0, a turn more where it is set and Δθ is
+-- below 0.
 unfoldable pub swept : Float → Bool → Float
 swept Δθ sweep =
     cond (not sweep && lt zero Δθ) (Δθ ⊖ tau)

@@ -1,5 +1,5 @@
 -- 000, `circle_tangent_through`: "The circle through `s` and `e` whose tangent at `s` is `t` (direction, either sign): center and radius. None when `e` lies on that tangent line
--- (no such circle) or the points coincide." Operation by operation. Definitions only. Assumes nothing.
+-- (no such circle) or the points coincide." Operation by operation.
 use mathlib.Core.Bool.{cond}
 use lib.Ieee.{Float, lt, neg}
 use Rattle.laws.specs.Rounded.{_⊕_, _⊖_, _⊗_, _⊘_}

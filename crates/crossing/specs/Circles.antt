@@ -1,5 +1,4 @@
 -- 000, `intersect_circle_circle`: "Closed-form circle-circle intersection with span filtering on both arcs. Tangency (single touch point) is included." Operation by operation.
--- Definitions only. Assumes nothing.
 use mathlib.Core.Bool.{cond}
 use lib.Ieee.{Float, lt}
 use Rattle.laws.specs.Rounded.{_⊕_, _⊖_, _⊗_, _⊘_}

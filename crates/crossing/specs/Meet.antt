@@ -1,4 +1,4 @@
--- 000: `if let (Some(ta), Some(tb)) = (arc_param_in_span(a, ..), arc_param_in_span(b, ..)) { out.push(CurveHit { t_a: ta, t_b: tb, pos }) }`. Definitions only. Assumes nothing.
+-- 000: `if let (Some(ta), Some(tb)) = (arc_param_in_span(a, ..), arc_param_in_span(b, ..)) { out.push(CurveHit { t_a: ta, t_b: tb, pos }) }`.
 use Rattle.curves.specs.declared.Point.{Point}
 use Rattle.arc.specs.declared.InSpan.{InSpan}
 use Rattle.arc.specs.declared.InSpan.the-variants.{Outside}

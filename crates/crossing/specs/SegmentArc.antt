@@ -1,5 +1,5 @@
 -- 01, 'Span and crossings': "segment and arc take the position from the clamped t, smaller root first." 000, `intersect_segment_arc`: "the arc's local frame scales the ellipse to
--- a circle, where the segment-circle quadratic applies". Operation by operation. Definitions only. Assumes nothing.
+-- a circle, where the segment-circle quadratic applies". Operation by operation.
 use mathlib.Core.Bool.{cond, not}
 use lib.Ieee.{Float, lt, neg}
 use Rattle.laws.specs.Rounded.{_⊕_, _⊖_, _⊗_, _⊘_}

@@ -1,4 +1,4 @@
--- A position by its two coordinates. Definitions only. Assumes nothing.
+-- A position by its two coordinates.
 use lib.Ieee.{Float}
 use Rattle.curves.specs.declared.Point.{Point}
 

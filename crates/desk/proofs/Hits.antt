@@ -1,4 +1,4 @@
--- The lines of the hits that a room stands for. Assumes nothing.
+-- The lines of the hits that a room stands for.
 use mathlib.Core.Path.{_≡_, refl}
 use mathlib.Core.List.{List, [], _∷_, _++_}
 use Prim.Native.Nat.{ℕ, zero as nought, suc, _+_, _≤_, _<_}

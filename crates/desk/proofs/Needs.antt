@@ -1,4 +1,4 @@
--- The room and the buffer have room for every query. Assumes nothing.
+-- The room and the buffer have room for every query.
 use mathlib.Core.Path.{_≡_, refl}
 use mathlib.Core.Bool.{Bool, true, false, cond, _||_}
 use Prim.Native.Nat.{ℕ, _^_, _≤_}

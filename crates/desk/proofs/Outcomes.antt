@@ -1,4 +1,4 @@
--- How a call comes to its promise, and that it has one outcome. Assumes nothing.
+-- How a call comes to its promise, and that it has one outcome.
 use mathlib.Core.Path.{_≡_, refl, sym, ap, _∙_}
 use mathlib.Core.Bool.{Bool, true, false, cond, _||_}
 use mathlib.Core.List.{List, []}

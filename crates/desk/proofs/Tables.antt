@@ -1,4 +1,4 @@
--- What a record number that is held and a record that is taken tell of the table. Assumes nothing.
+-- What a record number that is held and a record that is taken tell of the table.
 use mathlib.Core.Path.{_≡_, refl, sym, _∙_}
 use mathlib.Core.Bool.{Bool, true, false, cond, _&&_}
 use Prim.Native.Nat.{ℕ, _≤_, _<_}

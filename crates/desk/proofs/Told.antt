@@ -1,4 +1,4 @@
--- What the query on two curves tells, where the room is long enough. Assumes nothing.
+-- What the query on two curves tells, where the room is long enough.
 use mathlib.Core.Path.{_≡_, sym, ap, _∙_}
 use mathlib.Core.Bool.{Bool, false}
 use mathlib.Core.List.{List, _++_}

@@ -1,6 +1,6 @@
 -- What a call leaves: the answer, the room and the buffer. A room below the largest need (01: "1,024 times 2^depth"), that of one hit in each cell at the deepest, or a buffer below
 -- 262,144 bytes, which as many hit lines and an end line fit, is short: nothing is done. Else the bytes stand at the buffer's start and the hits at the room's, and the rest is as
--- lent. Definitions only. Assumes nothing.
+-- lent.
 use Prim.Native.Nat.{ℕ}
 use mathlib.Core.Path.{_≡_}
 use mathlib.Core.Bool.{Bool, true, false, cond, _||_}

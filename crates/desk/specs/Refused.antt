@@ -1,6 +1,5 @@
 -- 01, 'The program arcdesk and its lines': "A line is tested for 7, then 9 or 8, then 1, 2, 3." The table of refusals: 7 "malformed line", 8 "record number not in the table",
 -- 9 "a 65th record", 3 "depth above 3 (arc pairs, and every query line)". The room has the need of every query, so that 4 is no refusal of a line: no room is short here.
--- Definitions only. Assumes nothing.
 use Prim.Native.Nat.{ℕ}
 use mathlib.Core.Bool.{false, cond, _&&_}
 use mathlib.Core.List.{_++_}

@@ -1,5 +1,5 @@
 -- 01, 'The program arcdesk and its lines': "A refused line prints `R`, line number, refusal, and the table stays. An `S` or `A` that is taken prints nothing." A query prints its hits
--- and its end line. Definitions only. Assumes nothing.
+-- and its end line.
 use Prim.Native.Nat.{ℕ}
 use mathlib.Core.Bool.{cond}
 use mathlib.Core.List.{List, [], _++_}

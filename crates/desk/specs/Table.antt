@@ -1,5 +1,5 @@
 -- 01, 'The program arcdesk and its lines': "Records are numbered from 1, decimal without leading zeros, at most 64." The records taken so far, in order, stand in the first `count`
--- places of 64. Definitions only. Assumes nothing.
+-- places of 64.
 use Prim.Native.Nat.{ℕ, _+_, _-_}
 use mathlib.Core.Bool.{Bool, _&&_}
 use lib.Dec.{leb, ltb}

@@ -1,4 +1,4 @@
--- The values of decimal digits: a byte that has one is a digit. Assumes nothing.
+-- The values of decimal digits: a byte that has one is a digit.
 use mathlib.Core.Path.{_≡_}
 use Prim.Native.Nat.{ℕ, _-_, _≤_, _<_}
 use native.Mathlib.Decide.{decLt}

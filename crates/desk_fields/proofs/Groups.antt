@@ -1,4 +1,4 @@
--- What the numbers and the marks that were taken one after the other are in the line. Assumes nothing.
+-- What the numbers and the marks that were taken one after the other are in the line.
 use mathlib.Core.Path.{_≡_, refl, sym}
 use mathlib.Core.Bool.{Bool, cond}
 use mathlib.Core.List.{List, _∷_}

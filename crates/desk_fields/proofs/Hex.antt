@@ -1,4 +1,4 @@
--- Hex digits that are read are those of the number read, and the digits of a number are read as that number. Assumes nothing.
+-- Hex digits that are read are those of the number read, and the digits of a number are read as that number.
 use mathlib.Core.Path.{_≡_, refl, sym}
 use mathlib.Core.List.{List, [], _∷_, _++_, append-nil}
 use Prim.Native.Nat.{ℕ, zero as nought, suc, _+_, _*_, _/_, _%_, _^_, _≤_, _<_}

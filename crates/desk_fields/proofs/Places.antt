@@ -1,4 +1,4 @@
--- What a field reads where its bytes are known. Assumes nothing.
+-- What a field reads where its bytes are known.
 use mathlib.Core.Path.{_≡_}
 use mathlib.Core.List.{List}
 use Prim.Native.Nat.{ℕ, _+_, _≤_, _<_}

@@ -1,4 +1,4 @@
--- A text of fields, read back: each field gives what it says, and the next place has the fields after it. Assumes nothing.
+-- A text of fields, read back: each field gives what it says, and the next place has the fields after it.
 use mathlib.Core.Path.{_≡_, refl, sym, ap, _∙_}
 use mathlib.Core.Bool.{Bool, true, false, cond}
 use mathlib.Core.List.{List, [], _∷_, _++_}

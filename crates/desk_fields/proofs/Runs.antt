@@ -1,4 +1,4 @@
--- The digits that a list begins with, and what follows them. Assumes nothing.
+-- The digits that a list begins with, and what follows them.
 use mathlib.Core.Path.{_≡_, refl, ap}
 use mathlib.Core.List.{List, [], _∷_, _++_}
 use Prim.Native.Nat.{ℕ, _≤_, _<_}

@@ -1,4 +1,4 @@
--- What the loops do at a turn: the reading from one place on is the byte there and the reading from the next place on. Assumes nothing.
+-- What the loops do at a turn: the reading from one place on is the byte there and the reading from the next place on.
 use mathlib.Core.Path.{_≡_, refl, sym, ap, _∙_}
 use mathlib.Core.Bool.{cond}
 use mathlib.Core.List.{List, [], _∷_}

@@ -1,4 +1,4 @@
--- What the bytes of a field are where it was taken. Assumes nothing.
+-- What the bytes of a field are where it was taken.
 use mathlib.Core.Path.{_≡_, sym, _∙_}
 use mathlib.Core.List.{List, [], _∷_}
 use Prim.Native.Nat.{ℕ, _+_, _≤_, _<_}

@@ -1,4 +1,4 @@
--- What a field that was taken is in the line: a tab and its text, whatever follows. Assumes nothing.
+-- What a field that was taken is in the line: a tab and its text, whatever follows.
 use mathlib.Core.Path.{_≡_, ap, _∙_}
 use mathlib.Core.List.{List, [], _∷_}
 use Prim.Native.Nat.{ℕ, _+_, _≤_, _<_}

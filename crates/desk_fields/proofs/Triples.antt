@@ -1,4 +1,4 @@
--- Three fields are taken together once: `threeOf` and `marksOf` say what is made of the three numbers, and `fourOf` is `threeOf` and one field more. Assumes nothing.
+-- Three fields are taken together once: `threeOf` and `marksOf` say what is made of the three numbers, and `fourOf` is `threeOf` and one field more.
 use mathlib.Core.Path.{_≡_, refl}
 use mathlib.Core.List.{List}
 use Prim.Native.Nat.{ℕ, _+_}

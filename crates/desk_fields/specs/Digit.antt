@@ -1,4 +1,4 @@
--- 01, 'The program arcdesk and its lines': "decimal without leading zeros". The value of a byte as a decimal digit. Definitions only. Assumes nothing.
+-- 01, 'The program arcdesk and its lines': "decimal without leading zeros". The value of a byte as a decimal digit.
 use Prim.Native.Nat.{ℕ, _-_}
 use mathlib.Core.Bool.{cond}
 use lib.Dec.{ltb}

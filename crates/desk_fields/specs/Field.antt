@@ -1,5 +1,4 @@
 -- 01, 'The program arcdesk and its lines': "fields parted by one tab". One field, read at the place of its tab. A place past the end reads as byte 0, which is no digit and no tab.
--- Definitions only. Assumes nothing.
 use Prim.Native.Nat.{ℕ, zero as nought, suc, _+_, _*_}
 use mathlib.Core.Bool.{cond}
 use mathlib.Core.List.{List, [], _∷_}

@@ -1,5 +1,5 @@
 -- 01, 'The program arcdesk and its lines': "`S` and four coordinates; `A`, centre x and y, radius, radius_b, rotation, start, end, and three digits 0 or 1". Fields of one width, one after
--- the other: a number takes 17 bytes with its tab, a mark 2. Definitions only. Assumes nothing.
+-- the other: a number takes 17 bytes with its tab, a mark 2.
 use Prim.Native.Nat.{ℕ, _+_}
 use mathlib.Core.List.{List}
 use lib.Dec.{eqb}

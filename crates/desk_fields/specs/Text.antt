@@ -1,5 +1,5 @@
 -- 01, 'The program arcdesk and its lines': "fields parted by one tab". "Numbers are 16 lower-case hex digits of the f64's bits." "three digits 0 or 1 for ccw, closed, ellipse".
--- What bytes a field consists of, without a reader. Definitions only. Assumes nothing.
+-- What bytes a field consists of, without a reader.
 use Prim.Native.Nat.{ℕ, _+_, _*_, _-_, _^_, _≤_, _<_, min}
 use mathlib.Core.Path.{_≡_}
 use mathlib.Core.Bool.{Bool, cond}

@@ -1,4 +1,4 @@
--- What a line is read as by its length and its first byte. Assumes nothing.
+-- What a line is read as by its length and its first byte.
 use mathlib.Core.Path.{_≡_}
 use mathlib.Core.List.{List}
 use Prim.Native.Nat.{ℕ, _≤_, _<_}

@@ -1,4 +1,4 @@
--- What is read is what the grammar says, and what the grammar says is read: no line says two things. Assumes nothing.
+-- What is read is what the grammar says, and what the grammar says is read: no line says two things.
 use mathlib.Core.Path.{_≡_, refl, sym, ap, _∙_}
 use mathlib.Core.List.{List, [], _∷_}
 use Prim.Native.Nat.{ℕ, suc, _+_, _≤_}

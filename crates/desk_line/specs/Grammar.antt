@@ -1,6 +1,6 @@
 -- 01, 'The program arcdesk and its lines': "one record a line, fields parted by one tab, at most 256 bytes without the newline. Numbers are 16 lower-case hex digits of the f64's bits.
 -- `S` and four coordinates; `A`, centre x and y, radius, radius_b, rotation, start, end, and three digits 0 or 1 for ccw, closed, ellipse; `X`, two record numbers, depth as one digit."
--- What bytes a line consists of, without a reader. Definitions only. Assumes nothing.
+-- What bytes a line consists of, without a reader.
 use Prim.Native.Nat.{ℕ, _≤_, _<_}
 use mathlib.Core.Path.{_≡_}
 use mathlib.Core.List.{List, [], _∷_}

@@ -1,5 +1,4 @@
 -- 01, 'The program arcdesk and its lines': "A record number that begins with 0 or a line above 256 bytes is malformed", "an empty line is malformed". A line, read by its first byte.
--- Definitions only. Assumes nothing.
 use Prim.Native.Nat.{ℕ, _+_}
 use mathlib.Core.Bool.{cond}
 use mathlib.Core.List.{List}

@@ -1,4 +1,4 @@
--- The bytes that a step takes: those before the newline and the newline; they are the next ones, and at least one. Assumes nothing.
+-- The bytes that a step takes: those before the newline and the newline; they are the next ones, and at least one.
 use mathlib.Core.Path.{_≡_, refl, sym, ap, _∙_}
 use mathlib.Core.Bool.{Bool, true, false, cond}
 use mathlib.Core.List.{List, [], _∷_, _++_}

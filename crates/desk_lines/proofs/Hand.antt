@@ -1,4 +1,4 @@
--- The line at hand in its buffer: one byte more, and the bytes of a piece up to a newline. Assumes nothing.
+-- The line at hand in its buffer: one byte more, and the bytes of a piece up to a newline.
 use mathlib.Core.Path.{_≡_, refl, sym, ap, _∙_}
 use mathlib.Core.Bool.{Bool, true, false}
 use mathlib.Core.List.{List, [], _∷_, _++_, append-nil}

@@ -1,4 +1,4 @@
--- What is kept of a line: bytes are added to it as to the whole. Assumes nothing.
+-- What is kept of a line: bytes are added to it as to the whole.
 use mathlib.Core.Path.{_≡_, refl, ap}
 use mathlib.Core.List.{List, [], _∷_, _++_}
 use Prim.Native.Nat.{ℕ, zero, suc, _≤_}

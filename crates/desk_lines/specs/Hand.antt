@@ -1,5 +1,5 @@
 -- The line at hand in its buffer, and the bytes of a piece that go to it. 01: "at most 256 bytes without the newline", "a line above 256 bytes is malformed": so 257 bytes of a line are kept,
--- however long it is. Definitions only. Assumes nothing.
+-- however long it is.
 use Prim.Native.Nat.{ℕ, _+_}
 use mathlib.Core.Path.{_≡_}
 use mathlib.Core.Bool.{Bool, true, false, cond}

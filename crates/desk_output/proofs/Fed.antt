@@ -1,4 +1,4 @@
--- The input as it comes: bytes in two parts are the parts one after the other, and what is printed for all of them is the output. Assumes nothing.
+-- The input as it comes: bytes in two parts are the parts one after the other, and what is printed for all of them is the output.
 use mathlib.Core.Path.{_≡_, refl, sym, ap, _∙_}
 use mathlib.Core.Bool.{Bool, true, false, cond}
 use mathlib.Core.List.{List, [], _∷_, _++_, append-assoc, append-nil}

@@ -1,4 +1,4 @@
--- What is kept of a line is read as the whole of it would be. Assumes nothing.
+-- What is kept of a line is read as the whole of it would be.
 use mathlib.Core.Path.{_≡_, sym, ap, _∙_}
 use mathlib.Core.List.{List}
 use Prim.Native.Nat.{ℕ}

@@ -1,5 +1,5 @@
 -- 01, 'The program arcdesk and its lines': "A refused line prints `R`, line number, refusal, and the table stays. An `S` or `A` that is taken prints nothing." What is printed for all
--- the bytes of the input: each line is answered with its number, the first being 1, and with the table that the lines before it left. Definitions only. Assumes nothing.
+-- the bytes of the input: each line is answered with its number, the first being 1, and with the table that the lines before it left.
 use Prim.Native.Nat.{ℕ, _+_}
 use mathlib.Core.List.{List, [], _∷_, _++_}
 use Rattle.desk_line.specs.Read.{readLine}

@@ -1,5 +1,5 @@
 -- The input as it comes: what is known after some bytes, and what is printed for the next ones. Of a line so much is kept as tells that it is malformed. That this prints `output` is
--- `fed-output` in proofs/Fed.antt. Definitions only. Assumes nothing.
+-- `fed-output` in proofs/Fed.antt.
 use Prim.Native.Nat.{ℕ, _+_}
 use mathlib.Core.Bool.{cond}
 use mathlib.Core.List.{List, [], _∷_, _++_}

@@ -1,4 +1,4 @@
--- How long the lines are at most, and where the next one starts. Assumes nothing.
+-- How long the lines are at most, and where the next one starts.
 use mathlib.Core.List.{List, [], _∷_}
 use Prim.Native.Nat.{ℕ, _+_, _*_, _≤_}
 use native.Mathlib.Omega.{arith}

@@ -1,6 +1,6 @@
 -- 01, 'The program arcdesk and its lines': "A refused line prints `R`, line number, refusal". "Output fields are parted by one tab, each line ends in a newline, counts and line
 -- numbers are decimal, hits are numbered from 1 in each query." "Output: a hit line (line number, hit number, t_a, t_b, x, y) and an end line (line number, hits, brackets,
--- evaluations; the last two are 0 where nothing is sampled)." "Numbers are 16 lower-case hex digits of the f64's bits." Bytes are ASCII. Definitions only. Assumes nothing.
+-- evaluations; the last two are 0 where nothing is sampled)." "Numbers are 16 lower-case hex digits of the f64's bits." Bytes are ASCII.
 use Prim.Native.Nat.{ℕ, _+_}
 use mathlib.Core.List.{List, [], _∷_, _++_}
 use lib.Ieee.{Float, binary64, toBits}

@@ -1,4 +1,4 @@
--- The bytes before a newline print nothing and make the line at hand longer. Assumes nothing.
+-- The bytes before a newline print nothing and make the line at hand longer.
 use mathlib.Core.Path.{_≡_, refl, sym, ap, _∙_}
 use mathlib.Core.Bool.{Bool, true, false, cond}
 use mathlib.Core.List.{List, [], _∷_, _++_, append-nil}

@@ -1,4 +1,4 @@
--- A piece, step by step, as the program takes it: what is known after each step, and that what is printed stands in the buffer. Assumes nothing.
+-- A piece, step by step, as the program takes it: what is known after each step, and that what is printed stands in the buffer.
 use mathlib.Core.Path.{_≡_, refl, sym, ap, _∙_}
 use mathlib.Core.Bool.{Bool, true, false, cond}
 use mathlib.Core.List.{List, [], _++_}

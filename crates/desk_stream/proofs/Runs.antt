@@ -1,4 +1,4 @@
--- THE STREAM: whatever the pieces and the steps, what is printed is the output for all the bytes that were taken. And a step and the end have one outcome. Assumes nothing.
+-- THE STREAM: whatever the pieces and the steps, what is printed is the output for all the bytes that were taken. And a step and the end have one outcome.
 use mathlib.Core.Path.{_≡_, refl, sym, ap, _∙_}
 use mathlib.Core.Bool.{Bool, true, false, cond}
 use mathlib.Core.List.{List, [], _∷_, _++_, append-nil}

@@ -1,4 +1,4 @@
--- How the code comes to the promise of a step and of the end. Assumes nothing.
+-- How the code comes to the promise of a step and of the end.
 use mathlib.Core.Path.{_≡_, refl, sym, ap, _∙_}
 use mathlib.Core.Bool.{true, false}
 use mathlib.Core.List.{List, _++_}

@@ -1,5 +1,5 @@
 -- A run of the program: the steps that it makes one after the other, each on any piece, from any place in it, with any room and buffer, and then the end. What is printed is what each
--- leaves at the start of its buffer. Definitions only. Assumes nothing.
+-- leaves at the start of its buffer.
 use Prim.Native.Nat.{ℕ, _≤_}
 use mathlib.Core.Path.{_≡_}
 use mathlib.Core.List.{List, [], _∷_, _++_}

@@ -1,5 +1,5 @@
 -- What one step leaves: it takes the bytes of a piece from a place on, up to and with the first newline, or all. The bytes of the line at hand stand at the start of `line`, the bytes to
--- print at the start of `out`, a query's hits at the start of `room`; what is behind them is as lent. Definitions only. Assumes nothing.
+-- print at the start of `out`, a query's hits at the start of `room`; what is behind them is as lent.
 use Prim.Native.Nat.{ℕ, _+_}
 use mathlib.Core.Bool.{cond}
 use mathlib.Core.List.{List}

@@ -1,4 +1,4 @@
--- The digits of a number from the last one on, and how many they are. Assumes nothing.
+-- The digits of a number from the last one on, and how many they are.
 use mathlib.Core.Path.{_≡_, refl, sym, ap, _∙_}
 use mathlib.Core.Bool.{Bool, true, false}
 use mathlib.Core.List.{List, [], _∷_, _++_}

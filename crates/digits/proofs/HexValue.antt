@@ -1,4 +1,4 @@
--- The values of hex digits: a byte that has one is the digit of its value, and every digit has its value. Assumes nothing.
+-- The values of hex digits: a byte that has one is the digit of its value, and every digit has its value.
 use mathlib.Core.Path.{_≡_}
 use Prim.Native.Nat.{ℕ, _+_, _-_, _≤_, _<_}
 use native.Mathlib.Decide.{decLt}

@@ -1,4 +1,4 @@
--- 01, 'The program arcdesk and its lines': record numbers are "decimal without leading zeros", "counts and line numbers are decimal". Definitions only. Assumes nothing.
+-- 01, 'The program arcdesk and its lines': record numbers are "decimal without leading zeros", "counts and line numbers are decimal".
 use Prim.Native.Nat.{ℕ, zero as nought, suc, _+_, _/_, _%_}
 use mathlib.Core.Bool.{cond}
 use mathlib.Core.List.{List, [], _∷_, _++_}

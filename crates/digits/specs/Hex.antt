@@ -1,4 +1,4 @@
--- 01, 'The program arcdesk and its lines': "Numbers are 16 lower-case hex digits of the f64's bits." Bytes are numbers below 256, in ASCII. Definitions only. Assumes nothing.
+-- 01, 'The program arcdesk and its lines': "Numbers are 16 lower-case hex digits of the f64's bits." Bytes are numbers below 256, in ASCII.
 use Prim.Native.Nat.{ℕ, zero as nought, suc, _+_, _-_, _/_, _%_}
 use mathlib.Core.Bool.{cond}
 use mathlib.Core.List.{List, [], _∷_, _++_}

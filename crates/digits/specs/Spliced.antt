@@ -1,4 +1,4 @@
--- Bytes written one piece after the other: what a buffer holds after some bytes are written at a place, and the place after them. Definitions only. Assumes nothing.
+-- Bytes written one piece after the other: what a buffer holds after some bytes are written at a place, and the place after them.
 use Prim.Native.Nat.{ℕ, _+_}
 use mathlib.Core.Path.{_≡_}
 use mathlib.Core.List.{List}

@@ -1,4 +1,4 @@
--- P1 to P9: each row's numbers are those that the definitions give, worked out by the checker itself. Assumes nothing.
+-- P1 to P9: each row's numbers are those that the definitions give, worked out by the checker itself.
 use mathlib.Core.Path.{_≡_, refl}
 use mathlib.Core.List.{map}
 use lib.Ieee.{ofBits, toBits, ofFields, add, sub, mul, div, rem, neg, lt, le, eq, sum, round, odd, units, size, span, climb, ofInt, toUnsigned, isNan}

@@ -1,4 +1,4 @@
--- 01, 'Checked drawings': "Drawings with * are theorems of the definitions, held as one table." A drawing has a call and the numbers that it gives. Definitions only. Assumes nothing.
+-- 01, 'What a caller may conclude': "Drawings with * are theorems of the definitions, held as one table." A drawing has a call and the numbers that it gives.
 use Prim.Native.Nat.{ℕ}
 use mathlib.Core.Bool.{true, false}
 use mathlib.Core.List.{List, [], _∷_, map, _++_}

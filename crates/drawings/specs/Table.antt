@@ -1,4 +1,4 @@
--- 01, 'Checked drawings', P1 to P9, row by row. Definitions only. Assumes nothing.
+-- 01, 'Checked drawings', P1 to P9, row by row.
 use mathlib.Core.List.{List, [], _∷_}
 use lib.Ieee.{Float, binary64, ofBits, neg}
 use Rattle.laws.specs.Literal.{zero, one, two, three}

@@ -1,5 +1,5 @@
 -- 001: "Parametric angles: find t such that ellipse_point(t) = p1, p2". "(lx, ly) = (rx*cos(t), ry*sin(t)) => t = atan2(ly/ry, lx/rx)". "Determine CCW from tangent direction at
--- start". Definitions only. Assumes nothing.
+-- start".
 use mathlib.Core.Bool.{Bool}
 use lib.Ieee.{Float, neg, lt}
 use Rattle.laws.specs.Rounded.{_⊕_, _⊖_, _⊗_, _⊘_}

@@ -1,6 +1,6 @@
 -- 001, `fit_earc_tangent`: "Fit an elliptic arc through two points with given tangent directions and bulge. [..] Returns (center, rx, ry, rotation, start_angle, end_angle, ccw)
 -- or None if degenerate." Each of its six `return None` has its own place, in 001's order: the ends alike, no chord line, the target on the chord; then in `conicArc` not an ellipse,
--- an axis too flat, no real axis. Definitions only. Assumes nothing.
+-- an axis too flat, no real axis.
 use mathlib.Core.Bool.{cond}
 use lib.Ieee.{Float, lt, le}
 use Rattle.laws.specs.Literal.{ten⁻¹²}

@@ -1,5 +1,5 @@
 -- 001: "`bulge` is dimensionless: perpendicular distance from chord to arc midpoint, divided by half the chord length." "Use the tangent-normal intersection to determine the arc
--- side." "arc bulges opposite to center". "Compute target midpoint directly from bulge". Definitions only. Assumes nothing.
+-- side." "arc bulges opposite to center". "Compute target midpoint directly from bulge".
 use mathlib.Core.Bool.{cond}
 use mathlib.Core.List.{List}
 use lib.Ieee.{Float, neg, lt, le}

@@ -1,4 +1,4 @@
--- DEMAND 3 AS C HAS IT: two calls of `arcs_intersect_arcs` that give 0 are two answers of the library, with the counts that C reads. Assumes nothing.
+-- DEMAND 3 AS C HAS IT: two calls of `arcs_intersect_arcs` that give 0 are two answers of the library, with the counts that C reads.
 use mathlib.Core.Path.{_≡_, refl, sym}
 use mathlib.Core.Bool.{Bool, true, false, cond, _||_}
 use mathlib.Core.List.{List}

@@ -1,4 +1,4 @@
--- From what the library tells to the hits and counts that an export gives. Assumes nothing.
+-- From what the library tells to the hits and counts that an export gives.
 use mathlib.Core.Path.{_≡_, refl, sym, _∙_}
 use mathlib.Core.Bool.{Bool, true, false, cond, _&&_}
 use mathlib.Core.List.{List, []}

@@ -1,6 +1,6 @@
 -- 01, 'Numbers taken and numbers given back': "A call tests 1 over all its numbers (not those already in the lent room), then 2, 3, 4, then the rest." "A refusal returns its number and
 -- no other value, and the room keeps all its old numbers." An export with hits gives the refusal's number, 0 for none, and writes the hits to one lent room and what is counted to
--- another; 4 is given where either is too short. Definitions only. Assumes nothing.
+-- another; 4 is given where either is too short.
 use Prim.Native.Nat.{ℕ}
 use mathlib.Core.Path.{_≡_}
 use mathlib.Core.Bool.{cond}

@@ -1,4 +1,4 @@
--- A place that a list has does not depend on what stands for the missing ones. Assumes nothing.
+-- A place that a list has does not depend on what stands for the missing ones.
 use mathlib.Core.Path.{_≡_, refl}
 use mathlib.Core.List.{List, [], _∷_}
 use Prim.Native.Nat.{ℕ, zero, suc, _<_}

@@ -1,4 +1,4 @@
--- From what the library tells to the numbers that an export writes. Assumes nothing.
+-- From what the library tells to the numbers that an export writes.
 use mathlib.Core.Path.{_≡_, refl, sym, _∙_}
 use mathlib.Core.Bool.{Bool, true, false, cond}
 use mathlib.Core.List.{List, [], _∷_, _++_, append-nil}

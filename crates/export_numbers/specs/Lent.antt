@@ -1,6 +1,5 @@
 -- How C's numbers stand for the library's: an arc is seven numbers (center x and y, radius, radius_b, rotation, start, end) and a whole number of marks, 1 for ccw, 2 for closed
 -- and 4 for an ellipse. A curve is an arc, or with the mark 8 a segment of four numbers, its ends. A number that the caller has not lent is the NaN, so the call is refused with 1.
--- Definitions only. Assumes nothing.
 use Prim.Native.Nat.{ℕ, _/_, _%_}
 use mathlib.Core.Bool.{cond}
 use mathlib.Core.List.{List}

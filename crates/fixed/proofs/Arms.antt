@@ -1,4 +1,4 @@
--- A `match` whose arms are 0, 1, .., n - 1: past them the number is at least n. Assumes nothing.
+-- A `match` whose arms are 0, 1, .., n - 1: past them the number is at least n.
 use mathlib.Core.Path.{_≡_, sym}
 use mathlib.Core.Logic.{⊎-elim}
 use Prim.Native.Nat.{ℕ, zero, suc, _≤_}

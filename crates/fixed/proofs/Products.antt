@@ -1,4 +1,4 @@
--- The fixed-point product: how near it is to the exact one, and how large it can be. Assumes nothing.
+-- The fixed-point product: how near it is to the exact one, and how large it can be.
 use mathlib.Core.Path.{_≡_, sym, _∙_, ap}
 use Prim.Native.Nat.{ℕ, _+_, _*_, _/_, _%_, _≤_, _^_}
 use native.Mathlib.Nat.{mul-add, add-mul, mul-assoc, mul-right-comm, mul-mul-mul-comm, mul-comm, mul-le-mul, le-trans, div-add-mod'}

@@ -1,5 +1,4 @@
 -- The size of a float up to 8192, times a power of 2: the product is exact, and cut to a whole number it is a quotient of whole numbers.
--- Assumes nothing.
 use mathlib.Core.Path.{_≡_, refl, sym, _∙_, ap}
 use mathlib.Core.Bool.{Bool, true, false, true≢false}
 use Prim.Native.Nat.{ℕ, _*_, _/_, _≤_, _<_, _^_}

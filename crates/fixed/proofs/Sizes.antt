@@ -1,4 +1,4 @@
--- The size of a finite float, by its sign. Assumes nothing.
+-- The size of a finite float, by its sign.
 use mathlib.Core.Path.{_≡_, refl, sym, subst}
 use mathlib.Core.Bool.{Bool, true, false}
 use Prim.Native.Nat.{ℕ, _+_, _*_, _<_}

@@ -1,5 +1,5 @@
 -- The fixed-point product: x * y / 2 ^ 62 without the product of the lower halves. It is less than the exact one by at most 3
--- (`high-close` of proofs/Products.antt). Definitions only.
+-- (`high-close` of proofs/Products.antt).
 use Prim.Native.Nat.{ℕ, _+_, _*_, _/_, _%_, _^_}
 
 unfoldable pub high : ℕ → ℕ → ℕ

@@ -1,4 +1,4 @@
--- The size of a float: minus x where x is below 0, and x otherwise. Definitions only.
+-- The size of a float: minus x where x is below 0, and x otherwise.
 use mathlib.Core.Bool.{cond}
 use lib.Ieee.{Float, binary64, ofBits, neg, lt}
 

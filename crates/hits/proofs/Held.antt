@@ -1,4 +1,4 @@
--- What is held of an outcome: the room stands for its hits, and nothing else holds it. Assumes nothing.
+-- What is held of an outcome: the room stands for its hits, and nothing else holds it.
 use mathlib.Core.Path.{_≡_, refl, sym, ap, _∙_}
 use mathlib.Core.List.{List, [], _++_, append-nil}
 use Prim.Native.Nat.{ℕ, _+_}

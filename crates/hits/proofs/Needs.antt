@@ -1,4 +1,4 @@
--- The need of some hits, in numbers and in hits. Assumes nothing.
+-- The need of some hits, in numbers and in hits.
 use mathlib.Core.Path.{_≡_, refl}
 use mathlib.Core.Bool.{Bool, true, false}
 use Prim.Native.Nat.{ℕ, _*_, _/_, _≤_}

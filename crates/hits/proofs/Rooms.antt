@@ -1,4 +1,4 @@
--- The room of hits: what one more hit makes of it, what stands in it, and the part of one hit. Assumes nothing.
+-- The room of hits: what one more hit makes of it, what stands in it, and the part of one hit.
 use mathlib.Core.Path.{_≡_, refl, sym, ap, _∙_}
 use mathlib.Core.Bool.{Bool, true, false, cond, _&&_}
 use mathlib.Core.List.{List, [], _∷_, _++_}

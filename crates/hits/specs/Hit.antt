@@ -1,6 +1,6 @@
 -- 01, 'Numbers taken and numbers given back': "A hit takes four f64: t_a, t_b, x, y." "Numbers after the hits stay as lent." "A single hit can be asked for by its index, the first
 -- being 0: its four numbers come back as that part of the caller's own room; an index not below the stated number of hits, or whose four numbers do not all fit in the room, gets
--- the empty part." Definitions only. Assumes nothing.
+-- the empty part."
 use Prim.Native.Nat.{ℕ, _+_, _*_}
 use mathlib.Core.Bool.{cond, _&&_}
 use mathlib.Core.List.{List, [], _∷_}

@@ -1,5 +1,5 @@
 -- 01, 'Span and crossings': "The answer holds brackets and the four fates". What a search for crossings knows while it works, and leaves at its end: the counts are those of an
--- outcome, and the room has its hits. Definitions only. Assumes nothing.
+-- outcome, and the room has its hits.
 use mathlib.Core.Path.{_≡_}
 use mathlib.Core.List.{List}
 use lib.Ieee.{Float}

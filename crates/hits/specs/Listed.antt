@@ -1,5 +1,5 @@
 -- 01, 'What must change shape': "`Vec<CurveHit>` and `vec!` of roots or candidates: lent f64 room, or two places and a count." What the two places hold, as the list that the Rust
--- gives back. Definitions only. Assumes nothing.
+-- gives back.
 use mathlib.Core.List.{List, [], _∷_, _++_}
 use Rattle.hits.specs.declared.CurveHit.{CurveHit}
 use Rattle.hits.specs.declared.Crossing.{Crossing}

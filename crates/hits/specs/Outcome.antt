@@ -1,6 +1,5 @@
 -- 01, 'Span and crossings': "The answer holds brackets and the four fates, each counted by its own rule; the fates add up to the brackets. It also holds the number of points
 -- evaluated, which equals the length of the list of angles in the definition". What a definition gives before any refusal: the hits, the counts, and the angles looked at, in order.
--- Definitions only. Assumes nothing.
 use Prim.Native.Nat.{ℕ}
 use mathlib.Core.List.{List, []}
 use lib.ListN.{length}

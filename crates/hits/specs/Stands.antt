@@ -1,5 +1,5 @@
 -- 01, 'Numbers taken and numbers given back': "Numbers after the hits stay as lent." What a call knows of a lent room while it works: the room stands for the hits so far, and the
--- rest is as lent. Definitions only. Assumes nothing.
+-- rest is as lent.
 use Prim.Native.Nat.{ℕ, _+_}
 use mathlib.Core.Path.{_≡_}
 use mathlib.Core.List.{List, _++_}

@@ -1,4 +1,4 @@
--- What is proved of the hunt as a whole: its counts add up, and no second outcome satisfies its contract. Assumes nothing.
+-- What is proved of the hunt as a whole: its counts add up, and no second outcome satisfies its contract.
 use mathlib.Core.Path.{_≡_, refl, sym, _∙_}
 use mathlib.Core.Bool.{Bool, true, false, cond}
 use mathlib.Core.List.{List}

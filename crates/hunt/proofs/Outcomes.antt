@@ -1,4 +1,4 @@
--- What is proved of the outcome of some cells: the fates add up to the brackets, and the angles looked at are one for each cell and 61 for each bracket. Assumes nothing.
+-- What is proved of the outcome of some cells: the fates add up to the brackets, and the angles looked at are one for each cell and 61 for each bracket.
 use mathlib.Core.Path.{_≡_, refl, sym, ap, _∙_}
 use mathlib.Core.Logic.{inl, inr}
 use mathlib.Core.Bool.{Bool, true, false, cond}

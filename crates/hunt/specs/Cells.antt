@@ -1,6 +1,6 @@
 -- 01, 'Span and crossings': "the span of a is start to end, or start to start + TAU if closed. Depth k cuts it into N = 256 times 2^k cells. Sample 0 is the start itself;
 -- sample i from 1 is start + step * i with step = span / N, the span being that end minus the start." "A cell brackets if its first value is 0 or the product of its two
--- values is below 0. The last sample counts only as the end of its cell." Definitions only. Assumes nothing.
+-- values is below 0. The last sample counts only as the end of its cell."
 use Prim.Native.Nat.{ℕ, zero as nought, suc, _+_, _*_, _^_}
 use mathlib.Core.Bool.{Bool, cond, _||_}
 use mathlib.Core.List.{List, [], _∷_, _++_}

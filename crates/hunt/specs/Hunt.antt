@@ -1,5 +1,5 @@
 -- 01, 'Span and crossings': "Depth 0 is the Rust's; depths 1 to 3 are added. The test `step.abs() < 1e-15` uses the step of depth 0 at every depth." "N + 1 + 61 for each bracket,
--- and 0 when an early test ends the call." 000, `intersect_arcs`, from its first ellipse test on. Definitions only. Assumes nothing.
+-- and 0 when an early test ends the call." 000, `intersect_arcs`, from its first ellipse test on.
 use Prim.Native.Nat.{ℕ}
 use mathlib.Core.Bool.{Bool, cond, _||_}
 use lib.Ieee.{Float, lt}

@@ -1,5 +1,5 @@
 -- 01, 'Span and crossings': "It also holds the number of points evaluated, which equals the length of the list of angles in the definition". What a hunt makes of its outcome so far,
--- cell after cell. Definitions only. Assumes nothing.
+-- cell after cell.
 use Prim.Native.Nat.{ℕ, _+_, _≤_}
 use mathlib.Core.Bool.{cond}
 use mathlib.Core.List.{List, [], _∷_, _++_}

@@ -1,4 +1,4 @@
--- The search for an earlier hit, over the hits that a room stands for. Assumes nothing.
+-- The search for an earlier hit, over the hits that a room stands for.
 use mathlib.Core.Path.{_≡_, refl}
 use mathlib.Core.Bool.{false, _||_}
 use mathlib.Core.List.{List, [], _∷_}

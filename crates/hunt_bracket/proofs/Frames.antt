@@ -1,4 +1,4 @@
--- The frame of two arcs gives 000's own calls: `a.point_at(t)` and `arc_theta_of_pos(b, pos)`. Assumes nothing.
+-- The frame of two arcs gives 000's own calls: `a.point_at(t)` and `arc_theta_of_pos(b, pos)`.
 use mathlib.Core.Path.{_≡_, refl, ap, _∙_}
 use lib.Ieee.{Float}
 use Rattle.sine.specs.declared.SinCos.{SinCos}

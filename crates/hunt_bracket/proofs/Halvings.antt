@@ -1,4 +1,4 @@
--- The halvings, one after the other, and how many angles they look at. Assumes nothing.
+-- The halvings, one after the other, and how many angles they look at.
 use mathlib.Core.Path.{_≡_, refl, ap, _∙_}
 use mathlib.Core.List.{[], _∷_}
 use Prim.Native.Nat.{ℕ, zero as nought, suc, _+_}

@@ -1,5 +1,5 @@
 -- 01, 'Span and crossings': "Each bracket has one fate, tested in this order: outside a's span, outside b's span, double (some earlier hit with t_a nearer than 1e-7, the search
--- stopping at the first), hit." 000: `if !out.iter().any(|h| (h.t_a - ta).abs() < 1e-7)`. Definitions only. Assumes nothing.
+-- stopping at the first), hit." 000: `if !out.iter().any(|h| (h.t_a - ta).abs() < 1e-7)`.
 use mathlib.Core.Bool.{Bool, false, cond, _||_}
 use mathlib.Core.List.{List, [], _∷_}
 use lib.Ieee.{Float, lt}

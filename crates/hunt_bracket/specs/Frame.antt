@@ -1,6 +1,6 @@
 -- 01, 'Span and crossings': "The inside-outside value of an angle is 000's `g` there: b's implicit equation at that point of a, 0 on b, negative inside."
 -- 000, `intersect_arcs`, operation by operation; what does not hang on the angle stands in a frame. `proofs/Frames.antt` shows that the point is `a.point_at(t)` and the
--- angle on b `arc_theta_of_pos(b, pos)`. Definitions only. Assumes nothing.
+-- angle on b `arc_theta_of_pos(b, pos)`.
 use lib.Ieee.{Float}
 use Rattle.laws.specs.Rounded.{_⊕_, _⊖_, _⊗_}
 use Rattle.laws.specs.Literal.{one}

@@ -1,5 +1,5 @@
 -- 01, 'Span and crossings': "A bracket is halved 60 times as in 000, then one point is worked out at its middle." 000: `let mid = 0.5 * (lo + hi); let gm = g(a.point_at(mid));
--- if g_lo * gm <= 0.0 { hi = mid; } else { lo = mid; g_lo = gm; }`. g is the value of an angle. Definitions only. Assumes nothing.
+-- if g_lo * gm <= 0.0 { hi = mid; } else { lo = mid; g_lo = gm; }`. g is the value of an angle.
 use Prim.Native.Nat.{ℕ, zero as nought, suc}
 use mathlib.Core.Bool.{cond}
 use mathlib.Core.List.{List, [], _∷_, _++_}

@@ -1,4 +1,4 @@
--- NO BUILD THAT COPIES meets the contract: neither that of `hunt::hunt` nor that of the public `intersect_arcs`. Assumes nothing.
+-- NO BUILD THAT COPIES meets the contract: neither that of `hunt::hunt` nor that of the public `intersect_arcs`.
 use mathlib.Core.Path.{_≡_, refl, sym, ap, _∙_}
 use mathlib.Core.List.{List, [], _∷_}
 use Prim.Native.Nat.{ℕ, _≤_, _<_}

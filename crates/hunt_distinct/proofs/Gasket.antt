@@ -1,4 +1,4 @@
--- P10 WITH THE HOLE FIRST lists two hits that differ in all four numbers, at every depth that a call takes. The two cells that bracket are narrowed by the checker itself. Assumes nothing.
+-- P10 WITH THE HOLE FIRST lists two hits that differ in all four numbers, at every depth that a call takes. The two cells that bracket are narrowed by the checker itself.
 use mathlib.Core.Path.{_≡_, refl, _∙_}
 use mathlib.Core.Bool.{Bool, true, false, not, _&&_}
 use mathlib.Core.List.{List, [], _∷_, _++_, append-assoc}

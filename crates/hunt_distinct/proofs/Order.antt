@@ -1,4 +1,4 @@
--- P10 with the hole first, cell after cell: a hit stays where it is, none lies after the cells visited, and a bracket that lies far after its cell's start is no double. Assumes nothing.
+-- P10 with the hole first, cell after cell: a hit stays where it is, none lies after the cells visited, and a bracket that lies far after its cell's start is no double.
 use mathlib.Core.Path.{_≡_, refl, sym, ap, _∙_}
 use mathlib.Core.Bool.{Bool, true, false, cond}
 use mathlib.Core.List.{List, [], _∷_, _++_, append-nil, append-assoc}

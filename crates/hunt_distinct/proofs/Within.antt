@@ -1,4 +1,4 @@
--- A narrowed angle lies in its own cell, whatever the values there; its parameter on an arc that starts at 0 lies between 0 and it. Assumes nothing.
+-- A narrowed angle lies in its own cell, whatever the values there; its parameter on an arc that starts at 0 lies between 0 and it.
 use mathlib.Core.Path.{_≡_, refl}
 use mathlib.Core.Bool.{Bool, true, false, cond}
 use Prim.Native.Nat.{ℕ, zero as nought, suc, _+_, _*_, _%_, _^_, _≤_}

@@ -1,5 +1,5 @@
 -- 01, 'What a caller may conclude': "Four empty builds are to be tried: [..] and one that narrows the first bracket and copies it for the rest (demand 2's bits at each hit, at every
--- depth)." What shuts it out, and what it leaves in the room. Definitions only. Assumes nothing.
+-- depth)." What shuts it out, and what it leaves in the room.
 use Prim.Native.Nat.{ℕ, _<_}
 use mathlib.Core.Path.{_≡_}
 use mathlib.Core.List.{List}

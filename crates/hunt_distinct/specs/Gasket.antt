@@ -1,5 +1,5 @@
 -- 01, 'Checked drawings', P10: "a closed, marked ellipse, both radii 1,000, at 0; b a circle, radius and radius_b 10, at (999.9247, 12.2715)." "Rotation 0, closed circles start at 0."
--- Here they are swapped: the hole comes first. `limits` runs the same records. Definitions only. Assumes nothing.
+-- Here they are swapped: the hole comes first. `limits` runs the same records.
 use mathlib.Core.Bool.{Bool, true, false}
 use lib.Ieee.{Float, binary64, ofBits}
 use Rattle.laws.specs.Literal.{zero}

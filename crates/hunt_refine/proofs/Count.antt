@@ -1,4 +1,4 @@
--- If each of n coarse cells that passes contains a fine cell that passes, then no fewer fine cells pass than coarse ones. Assumes nothing.
+-- If each of n coarse cells that passes contains a fine cell that passes, then no fewer fine cells pass than coarse ones.
 use mathlib.Core.Path.{_≡_, refl, ap, _∙_}
 use mathlib.Core.Logic.{_⊎_, inl, inr}
 use mathlib.Core.Bool.{Bool, true, false, cond}

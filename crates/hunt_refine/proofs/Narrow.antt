@@ -1,4 +1,4 @@
--- A bracket, once narrowed, lies in its own cell, in the order of the span, and its ends still have opposite signs or an end at zero. Assumes nothing.
+-- A bracket, once narrowed, lies in its own cell, in the order of the span, and its ends still have opposite signs or an end at zero.
 use mathlib.Core.Path.{_≡_, refl, sym, _∙_, subst}
 use mathlib.Core.Bool.{Bool, true, false, not, _||_, cond, true≢false}
 use Prim.Native.Nat.{ℕ, zero as nought, suc, _<_}

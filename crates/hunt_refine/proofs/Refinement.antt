@@ -1,4 +1,4 @@
--- DEMAND 3, in the words of specs/Promise.antt: a finer hunt never loses what a coarser one brackets, for any two levels up to 7 (256 * 2 ^ 7 cells). Assumes nothing.
+-- DEMAND 3, in the words of specs/Promise.antt: a finer hunt never loses what a coarser one brackets, for any two levels up to 7 (256 * 2 ^ 7 cells).
 use mathlib.Core.Path.{_≡_, refl, sym, ap, subst}
 use mathlib.Core.Logic.{inl, inr}
 use mathlib.Core.Bool.{Bool, true, false, cond, not, _||_, true≢false}

@@ -1,4 +1,4 @@
--- A run of m cells: if its two ends bracket, one of its cells does. So each cell of a coarser grid that brackets contains a cell of a finer one that does. Assumes nothing.
+-- A run of m cells: if its two ends bracket, one of its cells does. So each cell of a coarser grid that brackets contains a cell of a finer one that does.
 use mathlib.Core.Path.{_≡_, sym, subst}
 use mathlib.Core.Bool.{Bool}
 use mathlib.Core.Logic.{_⊎_, inl, inr}

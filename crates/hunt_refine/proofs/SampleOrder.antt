@@ -1,4 +1,4 @@
--- The samples of a span come in order, rising where the span is not negative and falling where it is not positive; they are held and bounded. Assumes nothing.
+-- The samples of a span come in order, rising where the span is not negative and falling where it is not positive; they are held and bounded.
 use mathlib.Core.Path.{refl, sym, subst}
 use mathlib.Core.Bool.{false}
 use Prim.Native.Nat.{ℕ, zero as nought, suc, _*_, _^_, _≤_, _<_}

@@ -1,4 +1,4 @@
--- The samples of all depths: depth k's sample i is depth k + d's sample 2^d * i, bit for bit, wherever the hunt's own test on the step of depth 0 passes. Assumes nothing.
+-- The samples of all depths: depth k's sample i is depth k + d's sample 2^d * i, bit for bit, wherever the hunt's own test on the step of depth 0 passes.
 use mathlib.Core.Path.{_≡_, refl, sym, ap, _∙_, subst}
 use mathlib.Core.Logic.{inl, inr}
 use mathlib.Core.Bool.{Bool, false, not}

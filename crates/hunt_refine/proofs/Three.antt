@@ -1,4 +1,4 @@
--- Three values: if the outer two bracket, the first two do or the last two do. Assumes nothing.
+-- Three values: if the outer two bracket, the first two do or the last two do.
 use mathlib.Core.Path.{_≡_}
 use mathlib.Core.Logic.{_⊎_, inl, inr}
 use mathlib.Core.Bool.{not, _||_}

@@ -1,4 +1,4 @@
--- The samples and the cells of the hunt of depth k, as `hunted` of the crate hunt visits them. Definitions only. Assumes nothing.
+-- The samples and the cells of the hunt of depth k, as `hunted` of the crate hunt visits them.
 use Prim.Native.Nat.{ℕ}
 use mathlib.Core.Bool.{Bool}
 use lib.Ieee.{Float}

@@ -1,5 +1,5 @@
 -- 01, 'Numbers taken and numbers given back': "Coordinates, radii, parts of a direction and bulge have size at most 1,048,576; angles at most 1,024." Of these the theorems need the
--- limit on a's two angles alone. Definitions only. Assumes nothing.
+-- limit on a's two angles alone.
 use lib.Dec.{T}
 use lib.Ieee.{le}
 use Rattle.laws.specs.Size.{power, abs}

@@ -1,5 +1,5 @@
 -- Demand 3: "if every inside-outside value that the two hunts work out is zero or of size 2^-53 to 2^200, each cell where the coarser brackets a crossing contains a cell where the
--- finer does; brackets never grow fewer; each, once narrowed, lies in its own cell and still has ends of opposite sign or an end at zero." Definitions only. Assumes nothing.
+-- finer does; brackets never grow fewer; each, once narrowed, lies in its own cell and still has ends of opposite sign or an end at zero."
 use Prim.Native.Nat.{ℕ, suc, _-_, _*_, _^_, _≤_, _<_}
 use mathlib.Core.Bool.{Bool, true, false, _||_}
 use mathlib.Core.Path.{_≡_}

@@ -1,4 +1,4 @@
--- A number up to 8192 in size times a power of two up to 2 ^ 62 is exact. Assumes nothing.
+-- A number up to 8192 in size times a power of two up to 2 ^ 62 is exact.
 use mathlib.Core.Path.{_≡_, sym, _∙_, ap}
 use mathlib.Core.Bool.{Bool}
 use Prim.Native.Nat.{ℕ, suc, _+_, _*_, _-_, _≤_, _<_, _^_}

@@ -1,4 +1,4 @@
--- A number cut to its whole part, as `truncating_f64_to_u64` cuts it. Assumes nothing.
+-- A number cut to its whole part, as `truncating_f64_to_u64` cuts it.
 use mathlib.Core.Path.{_≡_, refl, sym, _∙_, ap}
 use mathlib.Core.Bool.{Bool, true, false, true≢false}
 use Prim.Native.Nat.{ℕ, _+_, _*_, _/_, _<_, _^_}

@@ -1,4 +1,4 @@
--- 000, `point_to_arc_dist`: an ellipse, a full circle or a partial arc. Definitions only. Assumes nothing.
+-- 000, `point_to_arc_dist`: an ellipse, a full circle or a partial arc.
 use mathlib.Core.Bool.{cond}
 use Rattle.laws.specs.Rounded.{_⊖_}
 use Rattle.curves.specs.declared.Point.{Point}

@@ -1,6 +1,5 @@
 -- 000, `nearest_arc_param`: "In-span parametric angle of the point on the arc nearest to `p`. For partial arcs a nearest point outside the span clamps to the nearer endpoint's
--- angle." 01, 'Easy to get wrong': "`point_to_arc_dist` takes the end when both ends are equally far, `nearest_arc_param` the start." Operation by operation. Definitions only.
--- Assumes nothing.
+-- angle." 01, 'Easy to get wrong': "`point_to_arc_dist` takes the end when both ends are equally far, `nearest_arc_param` the start." Operation by operation.
 use mathlib.Core.Bool.{cond, not}
 use lib.Ieee.{Float, le}
 use Rattle.laws.specs.Rounded.{_⊕_, _⊖_}

@@ -1,5 +1,5 @@
 -- 01, 'Easy to get wrong': "`point_to_arc_dist` has no slack and a normalised span." "`point_to_arc_dist` takes the end when both ends are equally far". 000, `point_to_arc_dist`
--- from its circle on, operation by operation. The point stands at (dx, dy) from the center. Definitions only. Assumes nothing.
+-- from its circle on, operation by operation. The point stands at (dx, dy) from the center.
 use mathlib.Core.Bool.{Bool, cond}
 use lib.Ieee.{Float, lt, le}
 use Rattle.laws.specs.Rounded.{_⊕_, _⊖_, _⊗_, _⊘_}

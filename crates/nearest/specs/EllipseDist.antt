@@ -1,5 +1,4 @@
--- 000, `point_to_ellipse_dist`: "Nearest point on an ellipse via tessellation + Newton refinement." "Also check endpoints explicitly". Operation by operation. Definitions only.
--- Assumes nothing.
+-- 000, `point_to_ellipse_dist`: "Nearest point on an ellipse via tessellation + Newton refinement." "Also check endpoints explicitly". Operation by operation.
 use mathlib.Core.Bool.{cond, _&&_}
 use lib.Ieee.{Float, lt}
 use Rattle.laws.specs.Rounded.{_⊕_, _⊖_}

@@ -1,4 +1,4 @@
--- 000, `point_to_ellipse_dist`: "Newton refinement (minimize squared distance), clamped to arc range", at most 8 steps, operation by operation. Definitions only. Assumes nothing.
+-- 000, `point_to_ellipse_dist`: "Newton refinement (minimize squared distance), clamped to arc range", at most 8 steps, operation by operation.
 use Prim.Native.Nat.{ℕ, zero as nought, suc}
 use mathlib.Core.Bool.{cond}
 use lib.Ieee.{Float, lt, neg}

@@ -1,5 +1,5 @@
 -- 000, `point_to_ellipse_dist` and `nearest_arc_param`: `for i in 0..=n { let t = sa + span * (i as f64 / n as f64); .. if d < best_d { best_d = d; best_t = t; } }`, with n = 64
--- and n = 128. The first of equally near samples stays. Definitions only. Assumes nothing.
+-- and n = 128. The first of equally near samples stays.
 use Prim.Native.Nat.{ℕ, zero as nought, suc, _+_}
 use mathlib.Core.Bool.{cond}
 use lib.IntN.{pos}

@@ -1,4 +1,4 @@
--- 000: `(p.x - q.x).powi(2) + (p.y - q.y).powi(2)`, by which points are compared without a root. Definitions only. Assumes nothing.
+-- 000: `(p.x - q.x).powi(2) + (p.y - q.y).powi(2)`, by which points are compared without a root.
 use lib.Ieee.{Float}
 use Rattle.laws.specs.Rounded.{_⊕_, _⊖_, square}
 use Rattle.curves.specs.declared.Point.{Point}

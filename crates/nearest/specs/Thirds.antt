@@ -1,4 +1,4 @@
--- 000, `nearest_arc_param`: "Golden-section-style shrink around the best sample", one turn and so many turns. Definitions only. Assumes nothing.
+-- 000, `nearest_arc_param`: "Golden-section-style shrink around the best sample", one turn and so many turns.
 use Prim.Native.Nat.{ℕ, zero as nought, suc}
 use mathlib.Core.Bool.{cond}
 use lib.Ieee.{lt}

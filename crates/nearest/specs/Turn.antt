@@ -1,4 +1,4 @@
--- 002, `ellipse_point`: `let cr = rot.cos(); let sr = rot.sin();`. What a caller who worked these two out hands on with the arc. Definitions only. Assumes nothing.
+-- 002, `ellipse_point`: `let cr = rot.cos(); let sr = rot.sin();`. What a caller who worked these two out hands on with the arc.
 use mathlib.Core.Path.{_≡_}
 use Rattle.sine.specs.declared.SinCos.{SinCos}
 use Rattle.sine.specs.Rule.{sine, cosine}

@@ -1,5 +1,5 @@
 -- When an answer is that of a row: the refusal is the row's, and the words told are its outputs and, past these, what stood there before. A row is the call, four lengths, how many
--- inputs, the inputs, the refusal, how many outputs, the outputs: bench/src/bin/samples.rs. Definitions only. Assumes nothing.
+-- inputs, the inputs, the refusal, how many outputs, the outputs: bench/src/bin/samples.rs.
 use Prim.Native.Nat.{ℕ, _+_, _<_}
 use mathlib.Core.Path.{_≡_}
 use mathlib.Core.Bool.{Bool, true, cond}

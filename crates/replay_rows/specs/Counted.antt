@@ -1,4 +1,4 @@
--- How a row is counted: once among the rows of its call and of all, where it could be read; and once more where the answer differs. Definitions only. Assumes nothing.
+-- How a row is counted: once among the rows of its call and of all, where it could be read; and once more where the answer differs.
 use Prim.Native.Nat.{ℕ, _+_}
 use mathlib.Core.Path.{_≡_}
 use mathlib.Core.Bool.{cond}

@@ -1,4 +1,4 @@
--- Records in a lent room: none, one more, the length, what stands at a place, the rest as lent, and a part of the room from the middle on. Assumes nothing.
+-- Records in a lent room: none, one more, the length, what stands at a place, the rest as lent, and a part of the room from the middle on.
 use mathlib.Core.Path.{_≡_, refl, sym, ap, _∙_}
 use mathlib.Core.List.{List, [], _∷_, _++_, append-assoc, append-nil}
 use Prim.Native.Nat.{ℕ, zero, suc, _+_, _*_, _-_, _≤_, _<_}

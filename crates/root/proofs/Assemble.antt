@@ -1,4 +1,4 @@
--- The bit pattern of a root, from its significand and exponent. Assumes nothing.
+-- The bit pattern of a root, from its significand and exponent.
 use mathlib.Core.Path.{_≡_, refl, sym, _∙_, subst}
 use mathlib.Core.Bool.{Bool, true, false, cond}
 use Prim.Native.Nat.{ℕ, zero, suc, _+_, _-_, _*_, _/_, _%_, _^_, _≤_, _<_, suc-le-suc}

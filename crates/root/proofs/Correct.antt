@@ -1,6 +1,6 @@
 -- What makes `squareRoot` IEEE 754's. A root is a number of the format (`square-root-fits`). Of a number above zero, every other number of the format is further from the exact root than
 -- `squareRoot` (`square-root-nearest`), so that there is no tie, and whatever has this property is `squareRoot` (`square-root-only`). All is said over whole numbers: every finite number above zero is
--- m / 2 ^ 2148 for a whole m (`whole-square`), its root and the format's other numbers are a / 2 ^ 1074 and b / 2 ^ 1074, and squares are compared. Assumes nothing.
+-- m / 2 ^ 2148 for a whole m (`whole-square`), its root and the format's other numbers are a / 2 ^ 1074 and b / 2 ^ 1074, and squares are compared.
 use mathlib.Core.Path.{_≡_, refl, sym, ap, _∙_, subst}
 use mathlib.Core.Bool.{true, false}
 use Prim.Native.Nat.{ℕ, zero, suc, _+_, _-_, _*_, _/_, _%_, _^_, _≤_, _<_, zero-le}

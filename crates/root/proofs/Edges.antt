@@ -1,4 +1,4 @@
--- The roots that are not worked out, by the tests of `sqrt` against 0.0: of plus infinity, of a zero, and of what is not above zero. Assumes nothing.
+-- The roots that are not worked out, by the tests of `sqrt` against 0.0: of plus infinity, of a zero, and of what is not above zero.
 use mathlib.Core.Path.{_≡_, refl, sym, ap, _∙_, subst}
 use mathlib.Core.Bool.{Bool, true, false, _||_, Bool·beq, true≢false, false≢true}
 use Prim.Native.Nat.{ℕ, zero, suc, _*_, _<_}

@@ -1,4 +1,4 @@
--- The arithmetic of mending a guess: by how much the number under the root is above the guess's square, in steps of 27 digits, and where the root is one off. Assumes nothing.
+-- The arithmetic of mending a guess: by how much the number under the root is above the guess's square, in steps of 27 digits, and where the root is one off.
 use mathlib.Core.Path.{_≡_, ap, _∙_, subst}
 use Prim.Native.Nat.{ℕ, zero, suc, _+_, _-_, _*_, _/_, _%_, _^_, _≤_, _<_}
 use native.Mathlib.Omega.{arith}

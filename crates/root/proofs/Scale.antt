@@ -1,4 +1,4 @@
--- The root of a number whose significand has its 53 digits: its own significand and exponent. Assumes nothing.
+-- The root of a number whose significand has its 53 digits: its own significand and exponent.
 use mathlib.Core.Path.{_≡_, sym, ap, _∙_, subst}
 use mathlib.Core.Bool.{true, false, true≢false}
 use Prim.Native.Nat.{ℕ, zero, suc, _+_, _-_, _*_, _/_, _%_, _^_, _≤_, _<_}

@@ -1,4 +1,4 @@
--- The digits and the scale of the number of a pattern: of a normal one they are its fields, those of a subnormal one move up by z places. Assumes nothing.
+-- The digits and the scale of the number of a pattern: of a normal one they are its fields, those of a subnormal one move up by z places.
 use mathlib.Core.Path.{_≡_, sym, ap, _∙_, subst}
 use mathlib.Core.Bool.{false}
 use Prim.Native.Nat.{ℕ, suc, _+_, _-_, _*_, _/_, _%_, _^_, _≤_, _<_}

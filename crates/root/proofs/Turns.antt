@@ -1,4 +1,4 @@
--- The arithmetic of a root by digits. Assumes nothing.
+-- The arithmetic of a root by digits.
 use mathlib.Core.Path.{_≡_, refl, ap, _∙_}
 use Prim.Native.Nat.{ℕ, _+_, _-_, _*_, _/_, _%_, _^_, _≤_, _<_}
 use native.Mathlib.Nat.{pow-succ', lt-of-lt-of-le, le-antisymm}

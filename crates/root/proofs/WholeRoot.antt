@@ -1,4 +1,4 @@
--- `floorRoot` is the whole part of the root, and `nearestRoot` the whole number nearest to it. There is only one of each. Assumes nothing.
+-- `floorRoot` is the whole part of the root, and `nearestRoot` the whole number nearest to it. There is only one of each.
 use mathlib.Core.Path.{_≡_, sym, subst}
 use mathlib.Core.Bool.{Bool, true, false, not, cond}
 use Prim.Native.Nat.{ℕ, zero, suc, _+_, _-_, _*_, _/_, _^_, _≤_, _<_, compare, Ordering, Ordering·lt, Ordering·eq, Ordering·gt}

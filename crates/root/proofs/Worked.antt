@@ -1,4 +1,4 @@
--- Worked roots, computed from the definition: the pattern of a number and that of its root. Assumes nothing.
+-- Worked roots, computed from the definition: the pattern of a number and that of its root.
 use mathlib.Core.Path.{_≡_, refl}
 use mathlib.Core.List.{List, [], _∷_}
 use mathlib.Core.Bool.{Bool, true, _&&_}

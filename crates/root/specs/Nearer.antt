@@ -1,5 +1,4 @@
--- IEEE 754, 4.3.1: the result is the number of the format "nearest to the infinitely precise result". Said of a root over whole numbers, by squares. Definitions only.
--- Assumes nothing.
+-- IEEE 754, 4.3.1: the result is the number of the format that is nearest to the exact one. Said of a root over whole numbers, by squares.
 use mathlib.Core.Bool.{false}
 use Prim.Native.Nat.{ℕ, _+_, _*_, _^_, _<_}
 use lib.Dec.{T}

@@ -1,4 +1,4 @@
--- 000: `(dx * dx + dy * dy).sqrt()` and `((ax - ux).powi(2) + (ay - uy).powi(2)).sqrt()`, the length of a vector: each operation rounded once. Definitions only. Assumes nothing.
+-- 000: `(dx * dx + dy * dy).sqrt()` and `((ax - ux).powi(2) + (ay - uy).powi(2)).sqrt()`, the length of a vector: each operation rounded once.
 use lib.Ieee.{Float}
 use Rattle.laws.specs.Rounded.{_⊕_, square}
 use Rattle.root.specs.SquareRoot.{squareRoot}

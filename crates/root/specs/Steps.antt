@@ -1,4 +1,4 @@
--- What the contracts of the functions behind `sqrt` cite. Assumes nothing.
+-- What the contracts of the functions behind `sqrt` cite.
 use mathlib.Core.Path.{_≡_}
 use mathlib.Core.Bool.{false}
 use Prim.Native.Nat.{ℕ, _+_, _*_, _/_, _%_, _^_, _≤_, _<_}

@@ -1,5 +1,4 @@
 -- 01, 'Roots and angles': "nearest, ties to even, stated over the whole number of the significand." The whole number nearest to the root of a whole number.
--- Definitions only. Assumes nothing.
 use Prim.Native.Nat.{ℕ, zero, suc, _+_, _-_, _*_, _/_, compare}
 use mathlib.Core.Bool.{cond}
 use lib.Dec.{leb}

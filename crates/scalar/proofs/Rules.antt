@@ -1,4 +1,4 @@
--- What the definitions of specs/ come to, rule by rule, so that they can be believed without being worked out. Assumes nothing.
+-- What the definitions of specs/ come to, rule by rule, so that they can be believed without being worked out.
 use mathlib.Core.Path.{_≡_, refl, sym, ap, _∙_, subst}
 use mathlib.Core.Logic.{_⊎_, inl, inr}
 use mathlib.Core.Bool.{Bool, true, false, not, _||_, cond, true≢false}

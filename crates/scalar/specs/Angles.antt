@@ -1,5 +1,4 @@
 -- 01, 'Roots and angles': "TAU has bits 401921fb54442d18; PI and FRAC_PI_2 are its half and quarter." That they are is `pi-half` and `fracPi2-quarter` in proofs/Rules.antt.
--- Definitions only. Assumes nothing.
 use lib.Ieee.{Float, binary64, ofBits}
 
 abbrev pub tau : Float

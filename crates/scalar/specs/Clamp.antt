@@ -1,6 +1,5 @@
 -- 01, 'Roots and angles': "Minimum, maximum and clamp follow Rust's rules; [..] clamp with a NaN value, low end above high or a NaN end, the answer is the NaN above".
 -- Rust's rule: the low end for what lies below it, the high end for what lies above it, and else the value itself. So a zero that equals a zero end keeps its sign.
--- Definitions only. Assumes nothing.
 use mathlib.Core.Bool.{Bool, cond, _||_}
 use lib.Ieee.{Float, nan, isNan, lt}
 

@@ -1,5 +1,5 @@
 -- 01, 'Roots and angles': "Minimum, maximum and clamp follow Rust's rules; of two zeros minimum and maximum give the second; of two NaNs [..] the answer is the NaN above".
--- Rust's rule: the smaller, or the larger, of the two, and beside a NaN the other. Definitions only. Assumes nothing.
+-- Rust's rule: the smaller, or the larger, of the two, and beside a NaN the other.
 use mathlib.Core.Bool.{cond}
 use lib.Ieee.{Float, isNan, lt}
 

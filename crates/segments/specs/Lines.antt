@@ -1,5 +1,4 @@
 -- 000, `line_line_intersection`: "Intersection of two infinite lines (p1-p2 and p3-p4). Returns midpoint of closest approach if nearly parallel." Operation by operation.
--- Definitions only. Assumes nothing.
 use mathlib.Core.Bool.{cond}
 use lib.Ieee.{Float, lt}
 use Rattle.laws.specs.Rounded.{_⊕_, _⊖_, _⊗_, _⊘_}

@@ -1,4 +1,4 @@
--- 000, `project_onto_segment` and `point_to_segment_dist` ("Distance from a sketch-space point to a line segment"), operation by operation. Definitions only. Assumes nothing.
+-- 000, `project_onto_segment` and `point_to_segment_dist` ("Distance from a sketch-space point to a line segment"), operation by operation.
 use mathlib.Core.Bool.{cond}
 use lib.Ieee.{Float, lt}
 use Rattle.laws.specs.Rounded.{_⊕_, _⊖_, _⊗_, _⊘_}

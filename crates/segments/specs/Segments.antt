@@ -1,5 +1,4 @@
--- 01, 'Span and crossings': "A segment pair clamps its parameters, but its position uses the unclamped t_a". 000, `intersect_segments`, operation by operation. Definitions only.
--- Assumes nothing.
+-- 01, 'Span and crossings': "A segment pair clamps its parameters, but its position uses the unclamped t_a". 000, `intersect_segments`, operation by operation.
 use mathlib.Core.Bool.{Bool, cond, not, _&&_}
 use lib.Ieee.{Float, lt, le, neg}
 use Rattle.laws.specs.Rounded.{_⊕_, _⊖_, _⊗_, _⊘_}

@@ -1,4 +1,4 @@
--- The first m coefficients of a shifted polynomial, worked out without the others, and what the others are worth. Assumes nothing.
+-- The first m coefficients of a shifted polynomial, worked out without the others, and what the others are worth.
 use mathlib.Core.Path.{_≡_, refl, sym, _∙_, ap}
 use mathlib.Core.List.{List, [], _∷_}
 use Prim.Native.Nat.{ℕ, zero, suc, _+_, _*_, _-_, _≤_, _^_}

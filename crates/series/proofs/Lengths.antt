@@ -1,4 +1,4 @@
--- How many coefficients a sum, a multiple, a product and a shifted polynomial have at most. Assumes nothing.
+-- How many coefficients a sum, a multiple, a product and a shifted polynomial have at most.
 use mathlib.Core.Path.{_≡_, refl, ap}
 use mathlib.Core.List.{List, [], _∷_}
 use Prim.Native.Nat.{ℕ, zero, suc, _+_, _≤_}

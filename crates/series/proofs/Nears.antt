@@ -1,4 +1,4 @@
--- Differences that lie near each other, and polynomials by the differences of their coefficients. Assumes nothing.
+-- Differences that lie near each other, and polynomials by the differences of their coefficients.
 use mathlib.Core.Path.{_≡_, refl}
 use mathlib.Core.List.{List, [], _∷_}
 use Prim.Native.Nat.{ℕ, zero, suc, _+_, _*_, _-_, _≤_, _<_, _^_}

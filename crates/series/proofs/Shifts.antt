@@ -1,4 +1,4 @@
--- A polynomial about a whole number c: at c + a / d, and at c - a / d. Assumes nothing.
+-- A polynomial about a whole number c: at c + a / d, and at c - a / d.
 use mathlib.Core.Path.{_≡_, refl, ap}
 use mathlib.Core.List.{List, [], _∷_}
 use Prim.Native.Nat.{ℕ, zero, suc, _+_, _*_, _≤_, _^_}

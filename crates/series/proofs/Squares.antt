@@ -1,4 +1,4 @@
--- A polynomial that two squares, (u - v) ^ 2 and (x - y) ^ 2, fill up to a constant is at most that constant. Assumes nothing.
+-- A polynomial that two squares, (u - v) ^ 2 and (x - y) ^ 2, fill up to a constant is at most that constant.
 use mathlib.Core.Path.{_≡_, refl}
 use mathlib.Core.List.{List, [], _∷_}
 use mathlib.Core.Bool.{Bool, true, false}

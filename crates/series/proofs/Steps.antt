@@ -1,4 +1,4 @@
--- How a sum, a difference, a product that is cut and a cut carry the error of a fixed-point number on. Assumes nothing.
+-- How a sum, a difference, a product that is cut and a cut carry the error of a fixed-point number on.
 use mathlib.Core.Path.{_≡_, refl, sym, _∙_, ap}
 use mathlib.Core.List.{List, [], _∷_}
 use Prim.Native.Nat.{ℕ, suc, _+_, _*_, _-_, _≤_, _^_}

@@ -1,4 +1,4 @@
--- The value of a polynomial is the sum of its terms. Assumes nothing.
+-- The value of a polynomial is the sum of its terms.
 use mathlib.Core.Path.{_≡_, refl, sym, _∙_, ap}
 use mathlib.Core.List.{List, [], _∷_}
 use Prim.Native.Nat.{ℕ, zero, suc, _+_, _*_, _-_, _^_}

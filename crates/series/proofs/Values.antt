@@ -1,4 +1,4 @@
--- The value of a sum, a multiple, a product and a weighed polynomial at a fraction; its value over a greater power; its bound. Assumes nothing.
+-- The value of a sum, a multiple, a product and a weighed polynomial at a fraction; its value over a greater power; its bound.
 use mathlib.Core.Path.{_≡_, refl, sym, _∙_, ap}
 use mathlib.Core.List.{List, [], _∷_}
 use Prim.Native.Nat.{ℕ, zero, suc, _+_, _*_, _≤_, _^_}

@@ -1,4 +1,4 @@
--- n!, the product of the numbers from 1 to n. Definitions only. Assumes nothing.
+-- n!, the product of the numbers from 1 to n.
 use Prim.Native.Nat.{ℕ, zero, suc, _*_}
 
 unfoldable pub factorial : ℕ → ℕ

@@ -1,4 +1,4 @@
--- How far two differences of whole numbers are apart, and two polynomials by their coefficients. Definitions only.
+-- How far two differences of whole numbers are apart, and two polynomials by their coefficients.
 use mathlib.Core.List.{List, [], _∷_}
 use Prim.Native.Nat.{ℕ, _+_, _-_, _≤_}
 use Rattle.series.specs.Poly.{plus, scale, times, total}

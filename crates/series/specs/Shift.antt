@@ -1,4 +1,4 @@
--- A polynomial about a whole number c, as a polynomial of t: p (c + t), its first coefficients alone, and p (c - t). Definitions only.
+-- A polynomial about a whole number c, as a polynomial of t: p (c + t), its first coefficients alone, and p (c - t).
 use mathlib.Core.List.{List, [], _∷_}
 use Prim.Native.Nat.{ℕ, zero, suc}
 use Rattle.series.specs.Poly.{plus, scale}

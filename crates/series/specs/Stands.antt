@@ -1,5 +1,5 @@
 -- A fixed-point number that stands for a polynomial at a fraction a / d, with a bound of its error. The polynomial is a difference
--- of two lists, p - m, over a common denominator s; n is a degree that neither exceeds. Definitions only.
+-- of two lists, p - m, over a common denominator s; n is a degree that neither exceeds.
 use mathlib.Core.List.{List}
 use Prim.Native.Nat.{ℕ, _+_, _*_, _≤_, _^_}
 use Rattle.series.specs.Poly.{value}

@@ -1,4 +1,4 @@
--- A sum of whole numbers. Definitions only.
+-- A sum of whole numbers.
 use Prim.Native.Nat.{ℕ, zero, suc, _+_}
 
 -- f 0 + f 1 + .. + f (k - 1)

@@ -1,4 +1,4 @@
--- The rule's cases, of the angle n of x. Assumes nothing.
+-- The rule's cases, of the angle n of x.
 use mathlib.Core.Path.{_≡_}
 use mathlib.Core.Bool.{false, cond}
 use Prim.Native.Nat.{ℕ, _≤_, _<_, _^_}

@@ -1,4 +1,4 @@
--- A number from its pattern: its digits moved up are its value at a power of two. Assumes nothing.
+-- A number from its pattern: its digits moved up are its value at a power of two.
 use mathlib.Core.Path.{_≡_, refl, sym, _∙_, ap, subst}
 use mathlib.Core.Bool.{false}
 use Prim.Native.Nat.{ℕ, zero, suc, _+_, _-_, _*_, _≤_, _<_, _^_}

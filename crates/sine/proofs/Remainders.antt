@@ -1,4 +1,4 @@
--- The remainder r = x % TAU of a finite x as a fraction, and n, its size at 2 ^ 61, cut. Assumes nothing.
+-- The remainder r = x % TAU of a finite x as a fraction, and n, its size at 2 ^ 61, cut.
 use mathlib.Core.Path.{_≡_, refl, sym, _∙_, ap, subst}
 use mathlib.Core.Bool.{Bool, true, false, _&&_, _||_, false≢true}
 use Prim.Native.Nat.{ℕ, _+_, _*_, _/_, _%_, _≤_, _<_, _^_}

@@ -1,5 +1,4 @@
 -- Two ways to the remainder without the division of floats: below TAU it is x, and below 8192 a remainder of whole numbers.
--- Assumes nothing.
 use mathlib.Core.Path.{_≡_, refl, sym, _∙_, ap, subst}
 use mathlib.Core.Bool.{Bool, true, false, false≢true, true≢false}
 use Prim.Native.Nat.{ℕ, suc, _+_, _*_, _-_, _/_, _%_, _≤_, _<_, _^_}

@@ -1,4 +1,4 @@
--- The rule's float changes its sign with `flip`. Assumes nothing.
+-- The rule's float changes its sign with `flip`.
 use mathlib.Core.Path.{_≡_, refl, sym, _∙_, ap}
 use mathlib.Core.Bool.{Bool, true, false, cond, not}
 use Prim.Native.Nat.{ℕ, _*_, _^_}

@@ -1,4 +1,4 @@
--- How large each number of the rule can be, so that nothing wraps. Assumes nothing.
+-- How large each number of the rule can be, so that nothing wraps.
 use mathlib.Core.Path.{_≡_, refl}
 use mathlib.Core.Bool.{Bool, true, false, cond, not, _&&_, _||_}
 use mathlib.Core.List.{List, [], _∷_}

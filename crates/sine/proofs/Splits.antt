@@ -1,4 +1,4 @@
--- The parts of an angle: they are small enough, and the node's row turned by them is the rule's number. Assumes nothing.
+-- The parts of an angle: they are small enough, and the node's row turned by them is the rule's number.
 use mathlib.Core.Path.{_≡_, refl}
 use mathlib.Core.Bool.{Bool, not}
 use Prim.Native.Nat.{ℕ, _≤_, _^_}

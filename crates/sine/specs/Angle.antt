@@ -1,5 +1,5 @@
 -- The angle. 01, 'Roots and angles': "let r be x % TAU, as the language's % gives it." The rule goes on with n, the size of r at 2 ^ 61,
--- cut to a whole number, and 0 where r is no number. Definitions only.
+-- cut to a whole number, and 0 where r is no number.
 use Prim.Native.Nat.{ℕ}
 use lib.Ieee.{Float, binary64, ofBits, mul, toUnsigned}
 use Rattle.scalar.specs.Angles as angles

@@ -1,5 +1,4 @@
 -- The node. The angle n at 2 ^ 61 is taken from the nearest of the nodes j / 16; what is left is the rest, at most 1 / 32, at 2 ^ 66.
--- Definitions only.
 use mathlib.Core.Bool.{Bool, cond}
 use Prim.Native.Nat.{ℕ, _+_, _-_, _*_, _/_, _^_}
 use lib.Dec.{ltb}

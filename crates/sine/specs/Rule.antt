@@ -1,6 +1,5 @@
 -- The rule. The addition theorem turns the node's row of the table by the rest: sin (j / 16 + g) is sin (j / 16) cos g + cos (j / 16)
 -- sin g. The table holds one more than the sine and the cosine, so that no number has a sign. One rounding, to 2 ^ -53, ends it.
--- Definitions only.
 use mathlib.Core.Bool.{Bool, false, cond, not}
 use Prim.Native.Nat.{ℕ, _+_, _-_, _*_, _/_, _^_}
 use lib.Dec.{leb, ltb}

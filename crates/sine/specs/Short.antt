@@ -1,5 +1,4 @@
 -- The short series. Of the rest g at 2 ^ 66, with z its square at 2 ^ 70, the sine at 2 ^ 66 and one less the cosine at 2 ^ 70.
--- Definitions only.
 use Prim.Native.Nat.{ℕ, _-_, _*_, _/_, _^_}
 use Rattle.fixed.specs.High.{high}
 

@@ -1,4 +1,4 @@
--- An angle n taken apart, as the code hands the parts from function to function. Definitions only.
+-- An angle n taken apart, as the code hands the parts from function to function.
 use mathlib.Core.Path.{_≡_}
 use mathlib.Core.Bool.{Bool}
 use Prim.Native.Nat.{ℕ}

@@ -1,4 +1,4 @@
--- The rule's number for the angle x / d, of which n is the whole part at 2 ^ 61, against the series there. Assumes nothing.
+-- The rule's number for the angle x / d, of which n is the whole part at 2 ^ 61, against the series there.
 use mathlib.Core.Path.{_≡_, refl, sym, _∙_, ap, subst}
 use mathlib.Core.List.{List, []}
 use mathlib.Core.Bool.{Bool, true, false, not}

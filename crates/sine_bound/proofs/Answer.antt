@@ -1,4 +1,4 @@
--- The float that the rule makes of its number: a whole number of 2 ^ -53, at most 1 in size. Assumes nothing.
+-- The float that the rule makes of its number: a whole number of 2 ^ -53, at most 1 in size.
 use mathlib.Core.Path.{_≡_, refl, sym, _∙_, ap}
 use mathlib.Core.Logic.{_⊎_, inl, inr}
 use mathlib.Core.Bool.{Bool, true, false, cond}

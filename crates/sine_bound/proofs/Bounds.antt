@@ -1,4 +1,4 @@
--- The rule's sine and cosine of one remainder m * 2 ^ e with the sign s: near the series, and at most 1. Assumes nothing.
+-- The rule's sine and cosine of one remainder m * 2 ^ e with the sign s: near the series, and at most 1.
 use mathlib.Core.Path.{_≡_, sym, _∙_}
 use mathlib.Core.Bool.{Bool, true, false, cond}
 use Prim.Native.Nat.{ℕ, _+_, _*_, _≤_, _<_, _^_}

@@ -1,5 +1,5 @@
 -- The rule's number against the series, about a node: t / 2 ^ 61 is 3 more than the series to within 17008 / 2 ^ 61, which is 624 for
--- the cuts and 2 ^ 14 for the row's polynomial. Assumes nothing.
+-- the cuts and 2 ^ 14 for the row's polynomial.
 use mathlib.Core.Path.{_≡_, refl, sym, _∙_}
 use mathlib.Core.List.{List, [], _∷_}
 use Prim.Native.Nat.{ℕ, suc, _+_, _*_, _≤_, _<_, _^_}

@@ -1,5 +1,5 @@
 -- What the rule's fixed-point numbers stand for: the polynomials of a row, of t = a / d, where t / 16 is the rest of the angle, with the
--- errors of all cuts added up. Assumes nothing.
+-- errors of all cuts added up.
 use mathlib.Core.Path.{_≡_}
 use mathlib.Core.List.{[], _∷_}
 use mathlib.Core.Bool.{Bool, true, false}

@@ -1,4 +1,4 @@
--- The sign: x has the remainder's sign, and the rule's float changes its own with it. Assumes nothing.
+-- The sign: x has the remainder's sign, and the rule's float changes its own with it.
 use mathlib.Core.Path.{_≡_, refl, sym, _∙_, ap}
 use mathlib.Core.Bool.{Bool, true, false, not}
 use Prim.Native.Nat.{ℕ, _+_, _*_, _%_, _≤_, _^_}

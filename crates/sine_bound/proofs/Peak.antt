@@ -1,5 +1,4 @@
 -- The rule's number stays within 1 of its middle, 3 at 2 ^ 61, but for 17008. So cutting the answer to at most 1 changes it little.
--- Assumes nothing.
 use mathlib.Core.Path.{_≡_, refl, sym, ap, _∙_}
 use mathlib.Core.List.{List, [], _∷_}
 use mathlib.Core.Bool.{Bool, true, false, not}

@@ -1,5 +1,5 @@
 -- From the rule's number to the float: rounding to 53 places and cutting to 1 keep it within 34016 / 2 ^ 61, which is below 2 ^ -44, of
--- the series. Assumes nothing.
+-- the series.
 use mathlib.Core.Path.{_≡_, refl, sym, _∙_, ap}
 use mathlib.Core.Bool.{Bool, true, false, cond, true≢false}
 use Prim.Native.Nat.{ℕ, _+_, _*_, _-_, _/_, _≤_, _<_, _^_}

@@ -1,4 +1,4 @@
--- Near 0 the series is its first term, to within 2 ^ -50: for an angle x / d of at most 2 ^ -26. Assumes nothing.
+-- Near 0 the series is its first term, to within 2 ^ -50: for an angle x / d of at most 2 ^ -26.
 use mathlib.Core.Path.{_≡_}
 use mathlib.Core.List.{List, [], _∷_}
 use Prim.Native.Nat.{ℕ, _+_, _*_, _≤_, _<_, _^_}

@@ -1,4 +1,4 @@
--- Taylor's sums are the values of the lists that the table was tested against. Assumes nothing.
+-- Taylor's sums are the values of the lists that the table was tested against.
 use mathlib.Core.Path.{_≡_, _∙_}
 use Prim.Native.Nat.{ℕ}
 use native.Mathlib.Nat.{add-zero, zero-add, zero-mul}

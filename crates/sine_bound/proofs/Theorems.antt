@@ -1,5 +1,5 @@
 -- THE PROMISES OF THE SINE AND THE COSINE, each as 01, 'Roots and angles', states it, for every float. `sine` and `cosine` are the
--- rule, to which the contracts of `sin`, `cos` and `sin_cos` are equal in every bit. Assumes nothing.
+-- rule, to which the contracts of `sin`, `cos` and `sin_cos` are equal in every bit.
 use mathlib.Core.Path.{_≡_, refl, sym, _∙_, ap, subst}
 use mathlib.Core.Bool.{Bool, true, false, cond, not}
 use Prim.Native.Nat.{ℕ, _*_, _≤_, _<_, _^_}
@@ -117,7 +117,7 @@ cosine-small (fin s m e) t h = rw (cosine-is s m e) (at-remainder (λ (r : Float
     one : (k : ℕ) (i : ℤ) → T (fits binary64 (fin s k i)) → k * up i * 2 ^ 47 ≤ 884279719003555 * down i → k * up i * 2 ^ 27 < down i → cosineAt (fin s k i) ≡ fin false 1 (pos 0)
     one k i fit small h = rw (lt-leb (2 ^ 34) (units (fin s k i)) (few s k i (2 ^ 34) fit small (omega arith))) refl
 
--- ---- "Sine and cosine of NaN or an infinity .. are the NaN"
+-- ---- "Sine and cosine of NaN or an infinity [..] are the NaN above"
 pub sine-nan : sine nan ≡ nan
 unfolding sine rem units sizeOf lt neg mul toUnsigned ofBits ofFields odd trailingZeros
 sine-nan = refl

@@ -1,5 +1,5 @@
 -- 01, 'Roots and angles': "let r be x % TAU, as the language's % gives it. The exact value is the fraction got by summing the first 22
--- terms of the Taylor series at r. The answer is within 2^-44 of it". Definitions only.
+-- terms of the Taylor series at r. The answer is within 2^-44 of it".
 use mathlib.Core.Bool.{cond}
 use lib.Ieee.{Float}
 use lib.Ieee.Positive.{num, den}

@@ -1,5 +1,5 @@
 -- 01, 'Roots and angles': "The answer is within 2^-44 of it and in -1 to 1." What it means that a float is near a fraction, and that it
--- is at most 1 in size, in whole numbers. `num` and `den` give the size of a float as a fraction. Definitions only.
+-- is at most 1 in size, in whole numbers. `num` and `den` give the size of a float as a fraction.
 use mathlib.Core.Bool.{cond}
 use Prim.Native.Nat.{ℕ, _+_, _*_, _≤_, _^_}
 use lib.Dec.{T}

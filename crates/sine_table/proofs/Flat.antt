@@ -1,5 +1,5 @@
 -- THE SECOND TEST OF THE TABLE: a turned row stays within 1 of its middle, 3 at 2 ^ 61, but for 2 ^ 14. With two squares added its
--- polynomial is a constant, since the squares of a sine and a cosine add up to 1. Computed 816 times. Assumes nothing.
+-- polynomial is a constant, since the squares of a sine and a cosine add up to 1. Computed 816 times.
 use mathlib.Core.Path.{_≡_, refl, sym, subst}
 use mathlib.Core.List.{List, [], _∷_}
 use mathlib.Core.Bool.{Bool, true, false, not, _&&_}

@@ -1,5 +1,5 @@
 -- THE TEST OF THE TABLE: at every node and on either side of it, Taylor's 22 terms and the polynomial that the rule makes of the node's
--- row differ by at most 2 ^ 14 at 2 ^ 61, the differences of the coefficients added up. Computed 408 times. Assumes nothing.
+-- row differ by at most 2 ^ 14 at 2 ^ 61, the differences of the coefficients added up. Computed 408 times.
 use mathlib.Core.Path.{_≡_, refl, sym, subst}
 use mathlib.Core.List.{List, [], _∷_}
 use mathlib.Core.Bool.{Bool, true, false, not, _&&_}

@@ -1,4 +1,4 @@
--- A test of every row of the table, and of one row. Assumes nothing.
+-- A test of every row of the table, and of one row.
 use mathlib.Core.Path.{_≡_, refl}
 use mathlib.Core.List.{List, [], _∷_}
 use mathlib.Core.Bool.{Bool, true, false, _&&_, false≢true}

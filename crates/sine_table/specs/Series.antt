@@ -1,5 +1,5 @@
 -- The first 22 terms of Taylor's series of the sine and of the cosine, times 43!, as polynomials of the angle. The terms that are
--- added and those that are taken away are two lists. Definitions only.
+-- added and those that are taken away are two lists.
 use mathlib.Core.List.{List, [], _∷_}
 use Prim.Native.Nat.{ℕ, zero, suc, _*_, _/_}
 use Rattle.series.specs.Factorial.{factorial}

@@ -1,4 +1,4 @@
--- `arccos::acos` meets its contract. Assumes nothing.
+-- `arccos::acos` meets its contract.
 use mathlib.Core.Path.{refl, _∙_}
 use borrow.Author.Needs.{needs}
 use Rattle.arccos.proofs.acos.Statement.{statement}

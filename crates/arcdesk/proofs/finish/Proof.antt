@@ -1,4 +1,4 @@
--- `arcdesk::finish` prints what the end leaves in the buffer. Assumes nothing.
+-- `arcdesk::finish` prints what the end leaves in the buffer.
 use borrow.Author.Needs.{needs}
 use Rattle.desk_stream.proofs.Pieces.{finish-prints}
 use Rattle.arcdesk.proofs.finish.Statement.{statement}

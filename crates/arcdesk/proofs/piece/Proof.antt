@@ -1,4 +1,4 @@
--- `arcdesk::piece` takes all the bytes of a piece: after each step what is known is what the bytes up to there leave. Assumes nothing.
+-- `arcdesk::piece` takes all the bytes of a piece: after each step what is known is what the bytes up to there leave.
 use Prim.Native.Nat.{_≤_, _-_}
 use native.Mathlib.Omega.{arith}
 use lib.ListN.{length, take}

@@ -1,4 +1,4 @@
--- `arcdesk::print` hands on no more than there is. Assumes nothing.
+-- `arcdesk::print` hands on no more than there is.
 use native.Mathlib.Omega.{arith}
 use lib.ListN.{length-take}
 use borrow.Author.Needs.{needs}

@@ -1,4 +1,4 @@
--- `arcdesk::read_all` ends, since `turns` falls, and after each piece it knows what all the bytes so far leave. Assumes nothing.
+-- `arcdesk::read_all` ends, since `turns` falls, and after each piece it knows what all the bytes so far leave.
 use mathlib.Core.List.{[]}
 use Prim.Native.Nat.{_<_, _^_}
 use native.Mathlib.Omega.{arith}

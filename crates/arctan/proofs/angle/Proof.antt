@@ -1,4 +1,4 @@
--- `arctan::angle` meets its contract. Assumes nothing.
+-- `arctan::angle` meets its contract.
 use mathlib.Core.Path.{_≡_, refl}
 use mathlib.Core.Bool.{Bool}
 use Prim.Native.Nat.{ℕ, _≤_}

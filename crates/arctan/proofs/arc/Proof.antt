@@ -1,4 +1,4 @@
--- `arctan::arc` meets its contract. Assumes nothing.
+-- `arctan::arc` meets its contract.
 use mathlib.Core.Path.{_≡_, sym, _∙_, ap, subst}
 use Prim.Native.Nat.{ℕ, _/_, _%_, _≤_}
 use native.Mathlib.Omega.{arith}

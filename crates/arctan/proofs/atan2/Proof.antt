@@ -1,4 +1,4 @@
--- `arctan::atan2` meets its contract. Assumes nothing.
+-- `arctan::atan2` meets its contract.
 use mathlib.Core.Path.{_≡_, refl, sym, _∙_, subst}
 use mathlib.Core.Bool.{Bool, true, false, not, _&&_, true≢false}
 use lib.Dec.{T}

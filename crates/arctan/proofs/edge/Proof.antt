@@ -1,4 +1,4 @@
--- `arctan::edge` meets its contract. Assumes nothing.
+-- `arctan::edge` meets its contract.
 use mathlib.Core.Path.{refl, sym, _∙_}
 use Rattle.arctan.proofs.Cases.{edge-nan, edge-number}
 use Rattle.laws.proofs.Tests.{ne-self}

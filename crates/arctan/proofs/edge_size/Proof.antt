@@ -1,4 +1,4 @@
--- `arctan::edge_size` meets its contract. Assumes nothing.
+-- `arctan::edge_size` meets its contract.
 use mathlib.Core.Path.{refl, sym, subst}
 use lib.Dec.{T}
 use Rattle.arctan.specs.Rule.{edgeSize}

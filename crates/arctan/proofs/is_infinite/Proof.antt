@@ -1,4 +1,4 @@
--- `arctan::is_infinite` meets its contract. Assumes nothing.
+-- `arctan::is_infinite` meets its contract.
 use mathlib.Core.Path.{sym, subst}
 use lib.Dec.{T}
 use Rattle.laws.proofs.Kind.{infinite-is}

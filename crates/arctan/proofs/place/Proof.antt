@@ -1,4 +1,4 @@
--- `arctan::place` meets its contract. Assumes nothing.
+-- `arctan::place` meets its contract.
 use mathlib.Core.Path.{sym, _∙_, ap, subst}
 use Prim.Native.Nat.{ℕ, _*_, _/_, _^_, _<_, _≤_}
 use native.Mathlib.Omega.{arith}

@@ -1,4 +1,4 @@
--- `arctan::rare` meets its contract. Assumes nothing.
+-- `arctan::rare` meets its contract.
 use mathlib.Core.Path.{_≡_, sym, _∙_, subst}
 use mathlib.Core.Bool.{not, _&&_}
 use lib.Dec.{T}

@@ -1,4 +1,4 @@
--- `calls_answers::as_center` meets its contract. Assumes nothing.
+-- `calls_answers::as_center` meets its contract.
 use mathlib.Core.Path.{refl}
 use borrow.Author.Tests.{ne-eqb}
 use borrow.Author.Needs.{needs}

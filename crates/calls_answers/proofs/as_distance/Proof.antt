@@ -1,4 +1,4 @@
--- `calls_answers::as_distance` meets its contract. Assumes nothing.
+-- `calls_answers::as_distance` meets its contract.
 use mathlib.Core.Path.{refl}
 use borrow.Author.Tests.{ne-eqb}
 use Rattle.calls_answers.proofs.as_distance.Statement.{statement}

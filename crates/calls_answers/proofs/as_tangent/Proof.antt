@@ -1,4 +1,4 @@
--- `calls_answers::as_tangent` meets its contract. Assumes nothing.
+-- `calls_answers::as_tangent` meets its contract.
 use mathlib.Core.Path.{refl}
 use borrow.Author.Tests.{ne-eqb}
 use borrow.Author.Needs.{needs}

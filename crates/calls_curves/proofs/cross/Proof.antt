@@ -1,4 +1,4 @@
--- `calls_curves::cross` meets its contract, case by case. Assumes nothing.
+-- `calls_curves::cross` meets its contract, case by case.
 use Rattle.calls_crossings.proofs.Rooms.{one-fits, two-fit}
 use borrow.Author.Needs.{needs}
 use Rattle.calls_curves.proofs.cross.Statement.{statement}

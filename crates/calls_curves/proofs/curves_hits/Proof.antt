@@ -1,4 +1,4 @@
--- `calls_curves::curves_hits` meets its contract. Assumes nothing.
+-- `calls_curves::curves_hits` meets its contract.
 use mathlib.Core.Path.{refl}
 use borrow.Author.Needs.{needs}
 use Rattle.calls_curves.proofs.curves_hits.Statement.{statement}

@@ -1,4 +1,4 @@
--- `calls_curves::intersect` meets its contract. Assumes nothing.
+-- `calls_curves::intersect` meets its contract.
 use mathlib.Core.Path.{refl, sym, _∙_}
 use Rattle.calls_crossings.proofs.Rooms.{crossed-done, crossed-refused, pair-fits}
 use borrow.Author.Needs.{needs}

@@ -1,4 +1,4 @@
--- `calls_curves::intersect_refusal` meets its contract: at a depth that is refused the hits do not matter. Assumes nothing.
+-- `calls_curves::intersect_refusal` meets its contract: at a depth that is refused the hits do not matter.
 use mathlib.Core.Path.{ap}
 use Prim.Native.Nat.{ℕ}
 use Rattle.hits.specs.Need.{short}

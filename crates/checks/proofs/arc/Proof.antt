@@ -1,4 +1,4 @@
--- `checks::arc` meets its contract. Assumes nothing.
+-- `checks::arc` meets its contract.
 use Rattle.checks.specs.Given.{tested}
 use borrow.Author.Needs.{needs}
 use Rattle.checks.proofs.arc.Statement.{statement}

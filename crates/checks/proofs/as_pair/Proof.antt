@@ -1,4 +1,4 @@
--- `checks::as_pair` meets its contract. Assumes nothing.
+-- `checks::as_pair` meets its contract.
 use borrow.Author.Tests.{ne-eqb}
 use Rattle.checks.specs.Answer.{answered}
 use Rattle.checks.proofs.as_pair.Statement.{statement}

@@ -1,4 +1,4 @@
--- `checks::coordinate` meets its contract: finite is what lies below infinity in size. Assumes nothing.
+-- `checks::coordinate` meets its contract: finite is what lies below infinity in size.
 use borrow.Author.Needs.{needs}
 use Rattle.checks.specs.Given.{tested}
 use Rattle.checks.proofs.Tested.{finite-size}

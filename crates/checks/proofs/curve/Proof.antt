@@ -1,4 +1,4 @@
--- `checks::curve` meets its contract. Assumes nothing.
+-- `checks::curve` meets its contract.
 use Rattle.checks.specs.Given.{tested}
 use borrow.Author.Needs.{needs}
 use Rattle.checks.proofs.curve.Statement.{statement}

@@ -1,4 +1,4 @@
--- `checks::infinity` meets its contract: one by zero. Assumes nothing.
+-- `checks::infinity` meets its contract: one by zero.
 use mathlib.Core.Path.{refl}
 use lib.Ieee.{div, ofBits}
 use Rattle.checks.proofs.infinity.Statement.{statement}

@@ -1,4 +1,4 @@
--- `checks::or_later` meets its contract. Assumes nothing.
+-- `checks::or_later` meets its contract.
 use borrow.Author.Tests.{ne-eqb}
 use Rattle.checks.proofs.or_later.Statement.{statement}
 use Rattle.checks.proofs.or_later.Tie as tie

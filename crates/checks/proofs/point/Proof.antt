@@ -1,4 +1,4 @@
--- `checks::point` meets its contract. Assumes nothing.
+-- `checks::point` meets its contract.
 use Rattle.checks.specs.Given.{tested}
 use borrow.Author.Needs.{needs}
 use Rattle.checks.proofs.point.Statement.{statement}

@@ -1,4 +1,4 @@
--- `checks::refusal` meets its contract, test by test. Assumes nothing.
+-- `checks::refusal` meets its contract, test by test.
 use Rattle.checks.specs.Refusal.{refusal}
 use Rattle.checks.proofs.refusal.Statement.{statement}
 use Rattle.checks.proofs.refusal.Tie as tie

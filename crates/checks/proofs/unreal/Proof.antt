@@ -1,4 +1,4 @@
--- `checks::unreal` meets its contract. Assumes nothing.
+-- `checks::unreal` meets its contract.
 use borrow.Author.Needs.{needs}
 use Rattle.checks.proofs.unreal.Statement.{statement}
 use Rattle.checks.proofs.unreal.Tie as tie

@@ -1,4 +1,4 @@
--- `crossing::meet` meets its contract. Assumes nothing.
+-- `crossing::meet` meets its contract.
 use borrow.Author.Needs.{needs}
 use Rattle.crossing.proofs.meet.Statement.{statement}
 use Rattle.crossing.proofs.meet.Tie as tie

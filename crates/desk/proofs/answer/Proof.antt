@@ -1,4 +1,4 @@
--- `answer` goes by the kind of line. Assumes nothing.
+-- `answer` goes by the kind of line.
 use mathlib.Core.Path.{refl}
 use native.Mathlib.Omega.{arith}
 use Rattle.desk.specs.Reply.{shown, tableAfter}

@@ -1,4 +1,4 @@
--- `desk::empty` meets its contract. Assumes nothing.
+-- `desk::empty` meets its contract.
 use mathlib.Core.Path.{refl}
 use Rattle.desk.proofs.empty.Statement.{statement}
 use Rattle.desk.proofs.empty.Tie as tie

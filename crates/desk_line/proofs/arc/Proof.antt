@@ -1,4 +1,4 @@
--- `arc` meets its contract. Assumes nothing.
+-- `arc` meets its contract.
 use borrow.Author.Tests.{eq-eqb, ne-eqb}
 use Rattle.desk_line.specs.Read.{arc}
 use borrow.Author.Needs.{needs}

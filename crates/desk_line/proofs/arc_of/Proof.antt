@@ -1,4 +1,4 @@
--- `arc_of` meets its contract. Assumes nothing.
+-- `arc_of` meets its contract.
 use borrow.Author.Needs.{needs}
 use Rattle.desk_line.proofs.arc_of.Statement.{statement}
 use Rattle.desk_line.proofs.arc_of.Tie as tie

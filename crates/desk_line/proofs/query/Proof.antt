@@ -1,4 +1,4 @@
--- `query` meets its contract. Each field ends within the line, so that the next begins at a place that can be read. Assumes nothing.
+-- `query` meets its contract. Each field ends within the line, so that the next begins at a place that can be read.
 use mathlib.Core.Path.{sym, _∙_}
 use native.Mathlib.Omega.{arith}
 use Rattle.desk_line.specs.Read.{query}

@@ -1,4 +1,4 @@
--- `query_end` meets its contract. A digit from 0 to 9 fits the depth. Assumes nothing.
+-- `query_end` meets its contract. A digit from 0 to 9 fits the depth.
 use mathlib.Core.Path.{sym, _∙_}
 use native.Mathlib.Omega.{arith}
 use borrow.Author.Tests.{eq-eqb, ne-eqb}

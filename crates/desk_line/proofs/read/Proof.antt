@@ -1,4 +1,4 @@
--- `read` meets its contract. Assumes nothing.
+-- `read` meets its contract.
 use mathlib.Core.Path.{sym, _∙_}
 use Rattle.desk_line.proofs.FirstByte.{read-long, read-segment, read-arc, read-query, read-other}
 use borrow.Author.Needs.{needs}

@@ -1,4 +1,4 @@
--- `segment` meets its contract. Assumes nothing.
+-- `segment` meets its contract.
 use borrow.Author.Tests.{eq-eqb, ne-eqb}
 use Rattle.desk_line.specs.Read.{segment}
 use borrow.Author.Needs.{needs}

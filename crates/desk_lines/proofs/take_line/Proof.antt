@@ -1,4 +1,4 @@
--- `take_line` takes the bytes up to a newline: as it goes the hand comes out the same, and at a newline or the end it is whole. Assumes nothing.
+-- `take_line` takes the bytes up to a newline: as it goes the hand comes out the same, and at a newline or the end it is whole.
 use mathlib.Core.Path.{_≡_, sym, ap, _∙_}
 use mathlib.Core.Bool.{true, false}
 use Prim.Native.Nat.{ℕ, _+_, _-_, _≤_, _<_}

@@ -1,4 +1,4 @@
--- `with_byte` keeps the byte, or the line as it is where it is full. Assumes nothing.
+-- `with_byte` keeps the byte, or the line as it is where it is full.
 use Rattle.desk_lines.proofs.Hand.{byte-past, byte-kept}
 use borrow.Author.Needs.{needs}
 use Rattle.desk_lines.proofs.with_byte.Statement.{statement}

@@ -1,4 +1,4 @@
--- `hit_line` meets its contract. Each part has a longest length, so that the next begins within the room. Assumes nothing.
+-- `hit_line` meets its contract. Each part has a longest length, so that the next begins within the room.
 use native.Mathlib.Omega.{arith}
 use Rattle.digits.proofs.Spliced.{put-then}
 use Rattle.desk_print.specs.Printed.{hitLine}

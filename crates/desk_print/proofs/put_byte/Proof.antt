@@ -1,4 +1,4 @@
--- `put_byte` meets its contract: one byte spliced in is one that is set. Assumes nothing.
+-- `put_byte` meets its contract: one byte spliced in is one that is set.
 use Rattle.digits.proofs.Spliced.{put-one}
 use borrow.Author.Needs.{needs}
 use Rattle.desk_print.proofs.put_byte.Statement.{statement}

@@ -1,4 +1,4 @@
--- `put_count` meets its contract: a tab, then the decimal digits. Assumes nothing.
+-- `put_count` meets its contract: a tab, then the decimal digits.
 use native.Mathlib.Omega.{arith}
 use Rattle.digits.proofs.Spliced.{put-then}
 use Rattle.desk_print.specs.Printed.{count}

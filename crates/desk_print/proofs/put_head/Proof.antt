@@ -1,4 +1,4 @@
--- `put_head` meets its contract: a letter, then a count. Assumes nothing.
+-- `put_head` meets its contract: a letter, then a count.
 use native.Mathlib.Omega.{arith}
 use Rattle.digits.proofs.Spliced.{put-then}
 use Rattle.desk_print.specs.Printed.{head}

@@ -1,4 +1,4 @@
--- `put_numbers` meets its contract: four numbers, one after the other. Assumes nothing.
+-- `put_numbers` meets its contract: four numbers, one after the other.
 use native.Mathlib.Omega.{arith}
 use Rattle.digits.proofs.Spliced.{put-then}
 use Rattle.desk_print.proofs.Lines.{within, number-length}

@@ -1,4 +1,4 @@
--- `begin` meets its contract. Assumes nothing.
+-- `begin` meets its contract.
 use mathlib.Core.Path.{ap}
 use Rattle.desk.specs.declared.Table.{Table}
 use Rattle.desk_stream.specs.declared.Stream.{Stream}

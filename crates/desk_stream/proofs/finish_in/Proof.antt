@@ -1,4 +1,4 @@
--- `finish_in` answers what is left of a line, if anything is. Assumes nothing.
+-- `finish_in` answers what is left of a line, if anything is.
 use mathlib.Core.Path.{sym, _∙_}
 use Rattle.desk_stream.proofs.Steps.{finish-answered, finish-nothing}
 use borrow.Author.Needs.{needs}

@@ -1,4 +1,4 @@
--- `next_number` meets its contract. Assumes nothing.
+-- `next_number` meets its contract.
 use mathlib.Core.Path.{sym}
 use Rattle.desk_output.proofs.Fed.{following-plain, following-largest}
 use borrow.Author.Needs.{needs}

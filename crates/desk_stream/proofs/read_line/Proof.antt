@@ -1,4 +1,4 @@
--- `read_line` hands on as much of the buffer as is asked for. Assumes nothing.
+-- `read_line` hands on as much of the buffer as is asked for.
 use native.Mathlib.Omega.{arith}
 use lib.ListN.{length-take}
 use borrow.Author.Needs.{needs}

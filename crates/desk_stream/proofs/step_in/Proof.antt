@@ -1,4 +1,4 @@
--- `step_in` answers a line that is whole, and keeps one that is not. Assumes nothing.
+-- `step_in` answers a line that is whole, and keeps one that is not.
 use Rattle.desk_stream.proofs.Steps.{kept-within, step-answered, step-waiting}
 use borrow.Author.Needs.{needs}
 use Rattle.desk_stream.proofs.step_in.Statement.{statement}

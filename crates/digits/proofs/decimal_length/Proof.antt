@@ -1,4 +1,4 @@
--- `decimal_length` counts divisions by ten. The invariant: what is counted and the digits that are left are all. Assumes nothing.
+-- `decimal_length` counts divisions by ten. The invariant: what is counted and the digits that are left are all.
 use mathlib.Core.Path.{_≡_}
 use Prim.Native.Nat.{suc, _+_, _-_, _^_, _≤_, _<_}
 use native.Mathlib.Omega.{arith}

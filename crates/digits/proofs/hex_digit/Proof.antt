@@ -1,4 +1,4 @@
--- `hex_digit` meets its contract: 0 to 9 stand from byte 48 on, a to f from 97 on. Assumes nothing.
+-- `hex_digit` meets its contract: 0 to 9 stand from byte 48 on, a to f from 97 on.
 use borrow.Author.Needs.{needs}
 use borrow.Author.Tests.{lt-ltb, le-ltb}
 use Rattle.digits.specs.Hex.{hexDigit}

@@ -1,4 +1,4 @@
--- `digits::hex_value` meets its contract. Assumes nothing.
+-- `digits::hex_value` meets its contract.
 use mathlib.Core.Path.{sym}
 use native.Mathlib.Omega.{arith}
 use Rattle.digits.proofs.HexValue.{hex-before, hex-numeral, hex-between, hex-letter, hex-past}

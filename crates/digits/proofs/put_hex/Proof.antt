@@ -1,4 +1,4 @@
--- `put_hex` writes the last digit first. The invariant: with the digits that are left, the buffer is as promised. Assumes nothing.
+-- `put_hex` writes the last digit first. The invariant: with the digits that are left, the buffer is as promised.
 use mathlib.Core.Path.{_≡_, refl, sym, ap, _∙_}
 use Prim.Native.Nat.{ℕ, _+_, _≤_}
 use native.Mathlib.Omega.{arith}

@@ -1,4 +1,4 @@
--- `conic_arc` is its definition, test by test. Assumes nothing.
+-- `conic_arc` is its definition, test by test.
 use Rattle.earc_fit.specs.Fit.{conicArc}
 use borrow.Author.Needs.{needs}
 use Rattle.earc_fit.proofs.conic_arc.Statement.{statement}

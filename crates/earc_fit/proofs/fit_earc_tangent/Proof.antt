@@ -1,4 +1,4 @@
--- `fit_earc_tangent` is its definition, test by test. Assumes nothing.
+-- `fit_earc_tangent` is its definition, test by test.
 use Rattle.earc_fit.specs.Fit.{fitEarcTangent}
 use borrow.Author.Needs.{needs}
 use Rattle.earc_fit.proofs.fit_earc_tangent.Statement.{statement}

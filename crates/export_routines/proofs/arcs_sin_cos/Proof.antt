@@ -1,4 +1,4 @@
--- `export_routines::arcs_sin_cos` meets its contract. Assumes nothing.
+-- `export_routines::arcs_sin_cos` meets its contract.
 use borrow.Author.Needs.{needs}
 use Rattle.export_routines.proofs.arcs_sin_cos.Statement.{statement}
 use Rattle.export_routines.proofs.arcs_sin_cos.Tie as tie

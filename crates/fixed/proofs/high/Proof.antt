@@ -1,4 +1,4 @@
--- `fixed::high` meets its contract: each product of halves is small enough. Assumes nothing.
+-- `fixed::high` meets its contract: each product of halves is small enough.
 use mathlib.Core.Path.{refl}
 use Prim.Native.Nat.{ℕ, _≤_, _*_, _^_, _/_, _%_}
 use native.Mathlib.Nat.{mul-le-mul}

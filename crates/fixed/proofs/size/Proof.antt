@@ -1,4 +1,4 @@
--- `fixed::size` meets its contract. Assumes nothing.
+-- `fixed::size` meets its contract.
 use borrow.Author.Needs.{needs}
 use Rattle.fixed.specs.Size.{sizeOf}
 use Rattle.fixed.proofs.size.Statement.{statement}

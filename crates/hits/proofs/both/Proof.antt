@@ -1,4 +1,4 @@
--- `hits::both` meets its contract. Assumes nothing.
+-- `hits::both` meets its contract.
 use borrow.Author.Needs.{needs}
 use Rattle.hits.proofs.both.Statement.{statement}
 use Rattle.hits.proofs.both.Tie as tie

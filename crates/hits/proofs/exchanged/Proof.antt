@@ -1,4 +1,4 @@
--- `hits::exchanged` meets its contract. Assumes nothing.
+-- `hits::exchanged` meets its contract.
 use borrow.Author.Needs.{needs}
 use Rattle.hits.proofs.exchanged.Statement.{statement}
 use Rattle.hits.proofs.exchanged.Tie as tie

@@ -1,4 +1,4 @@
--- `hits::hit` meets its contract. Assumes nothing.
+-- `hits::hit` meets its contract.
 use Rattle.hits.proofs.Rooms.{part-of, part-past, part-short}
 use borrow.Author.Needs.{needs}
 use Rattle.hits.proofs.hit.Statement.{statement}

@@ -1,4 +1,4 @@
--- `hits::one` meets its contract. Assumes nothing.
+-- `hits::one` meets its contract.
 use borrow.Author.Needs.{needs}
 use Rattle.hits.proofs.one.Statement.{statement}
 use Rattle.hits.proofs.one.Tie as tie

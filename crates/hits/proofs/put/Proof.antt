@@ -1,4 +1,4 @@
--- `hits::put` meets its contract: one store after the other. Assumes nothing.
+-- `hits::put` meets its contract: one store after the other.
 use native.Mathlib.Omega.{arith}
 use lib.ListN.{length-set}
 use Rattle.hits.proofs.Rooms.{put-stores}

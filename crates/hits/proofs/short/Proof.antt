@@ -1,4 +1,4 @@
--- `hits::short` meets its contract: fewer whole hits fit than are asked for. Assumes nothing.
+-- `hits::short` meets its contract: fewer whole hits fit than are asked for.
 use Rattle.hits.specs.Need.{short}
 use Rattle.hits.proofs.Needs.{fewer-fit}
 use Rattle.hits.proofs.short.Statement.{statement}

@@ -1,4 +1,4 @@
--- `hits::write` meets its contract. Assumes nothing.
+-- `hits::write` meets its contract.
 use mathlib.Core.Path.{refl, sym, _∙_}
 use native.Mathlib.Omega.{arith}
 use Rattle.hits.proofs.Rooms.{written-none, put-length, put-first, put-second}

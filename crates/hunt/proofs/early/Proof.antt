@@ -1,4 +1,4 @@
--- `early` is 000's tests before the first sample. Assumes nothing.
+-- `early` is 000's tests before the first sample.
 use Rattle.hunt.specs.Hunt.{early}
 use borrow.Author.Needs.{needs}
 use Rattle.hunt.proofs.early.Statement.{statement}

@@ -1,4 +1,4 @@
--- `hunt`: the tests before the first sample, then the cells of its depth. Assumes nothing.
+-- `hunt`: the tests before the first sample, then the cells of its depth.
 use mathlib.Core.Path.{_≡_, refl, sym}
 use mathlib.Core.Bool.{true, false}
 use Prim.Native.Nat.{_≤_, _^_}

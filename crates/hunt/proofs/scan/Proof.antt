@@ -1,4 +1,4 @@
--- `scan` visits the cells in order. The invariant: the tally and the room are those of the first i cells. Assumes nothing.
+-- `scan` visits the cells in order. The invariant: the tally and the room are those of the first i cells.
 use mathlib.Core.Path.{_≡_, refl, sym, ap, _∙_}
 use mathlib.Core.List.{[], _∷_}
 use Prim.Native.Nat.{_≤_, _-_}

@@ -1,4 +1,4 @@
--- `visit`: one cell. Assumes nothing.
+-- `visit`: one cell.
 use mathlib.Core.Path.{_≡_, refl, sym, ap, _∙_}
 use mathlib.Core.List.{[], _∷_}
 use native.Mathlib.Omega.{arith}

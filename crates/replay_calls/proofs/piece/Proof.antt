@@ -1,4 +1,4 @@
--- `replay_calls::piece` is safe and ends: it reads each byte once. Assumes nothing.
+-- `replay_calls::piece` is safe and ends: it reads each byte once.
 use Prim.Native.Nat.{_≤_, _-_}
 use native.Mathlib.Omega.{arith}
 use lib.ListN.{length}

@@ -1,4 +1,4 @@
--- `replay_calls::read_all` ends, since `turns` falls. Assumes nothing.
+-- `replay_calls::read_all` ends, since `turns` falls.
 use Prim.Native.Nat.{_<_, _^_}
 use native.Mathlib.Omega.{arith}
 use borrow.Author.Needs.{needs}

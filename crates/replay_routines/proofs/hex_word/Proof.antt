@@ -1,4 +1,4 @@
--- `replay_routines::hex_word` is safe: each turn reads below index `from` + 16. Assumes nothing.
+-- `replay_routines::hex_word` is safe: each turn reads below index `from` + 16.
 use Prim.Native.Nat.{_≤_, _-_}
 use native.Mathlib.Omega.{arith}
 use borrow.Author.Needs.{needs}

@@ -1,4 +1,4 @@
--- `replay_routines::replay` ends: `turns` falls. Assumes nothing.
+-- `replay_routines::replay` ends: `turns` falls.
 use Prim.Native.Nat.{_≤_}
 use native.Mathlib.Omega.{arith}
 use borrow.Author.Needs.{needs}

@@ -1,4 +1,4 @@
--- `replay_routines::sin_cos` lends no more than the three numbers that there are. Assumes nothing.
+-- `replay_routines::sin_cos` lends no more than the three numbers that there are.
 use mathlib.Core.Path.{_≡_}
 use mathlib.Core.List.{[], _∷_}
 use Prim.Native.Nat.{ℕ, _%_}

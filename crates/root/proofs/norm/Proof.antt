@@ -1,4 +1,4 @@
--- `root::norm` meets its contract. Assumes nothing.
+-- `root::norm` meets its contract.
 use borrow.Author.Needs.{needs}
 use Rattle.root.specs.Norm.{norm}
 use Rattle.root.proofs.norm.Statement.{statement}

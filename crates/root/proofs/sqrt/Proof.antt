@@ -1,4 +1,4 @@
--- `root::sqrt` meets its contract, by the laws of `Positive` and `Edges`. Assumes nothing.
+-- `root::sqrt` meets its contract, by the laws of `Positive` and `Edges`.
 use mathlib.Core.Path.{sym, ap, _∙_, subst}
 use borrow.Author.Needs.{needs}
 use lib.Dec.{T}

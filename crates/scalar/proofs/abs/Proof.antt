@@ -1,4 +1,4 @@
--- `scalar::abs` meets its contract: clearing the highest bit of the pattern clears the sign. Assumes nothing.
+-- `scalar::abs` meets its contract: clearing the highest bit of the pattern clears the sign.
 use mathlib.Core.Path.{sym, ap, _∙_, subst}
 use borrow.Author.Needs.{needs}
 use lib.Dec.{T}

@@ -1,4 +1,4 @@
--- `scalar::bounded` meets its contract. Assumes nothing.
+-- `scalar::bounded` meets its contract.
 use Rattle.scalar.proofs.bounded.Statement.{statement}
 use Rattle.scalar.proofs.bounded.Tie as tie
 

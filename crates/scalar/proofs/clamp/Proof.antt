@@ -1,4 +1,4 @@
--- `scalar::clamp` meets its contract, by the laws of `Rules`. Assumes nothing.
+-- `scalar::clamp` meets its contract, by the laws of `Rules`.
 use mathlib.Core.Path.{sym, _∙_}
 use borrow.Author.Needs.{needs}
 use Rattle.scalar.proofs.Rules.{clamp-range, clamp-no-range}

@@ -1,4 +1,4 @@
--- `scalar::from_bits` meets its contract: what lies above infinity's pattern, the sign left out, is a NaN's. Assumes nothing.
+-- `scalar::from_bits` meets its contract: what lies above infinity's pattern, the sign left out, is a NaN's.
 use mathlib.Core.Path.{sym, _∙_}
 use borrow.Author.Needs.{needs}
 use Rattle.laws.proofs.Pattern.{nan-pattern, number-pattern}

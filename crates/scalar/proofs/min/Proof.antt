@@ -1,4 +1,4 @@
--- `scalar::min` meets its contract: the test `y != y` is that for a NaN. Assumes nothing.
+-- `scalar::min` meets its contract: the test `y != y` is that for a NaN.
 use mathlib.Core.Path.{sym, _∙_}
 use borrow.Author.Needs.{needs}
 use Rattle.laws.proofs.Tests.{ne-self}

@@ -1,4 +1,4 @@
--- `scalar::not_a_number` meets its contract: a zero by a zero is the NaN. Assumes nothing.
+-- `scalar::not_a_number` meets its contract: a zero by a zero is the NaN.
 use mathlib.Core.Path.{refl}
 use lib.Ieee.{div, ofBits}
 use Rattle.scalar.proofs.not_a_number.Statement.{statement}

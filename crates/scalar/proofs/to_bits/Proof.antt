@@ -1,4 +1,4 @@
--- `scalar::to_bits` meets its contract: the pattern of the NaN is computed. Assumes nothing.
+-- `scalar::to_bits` meets its contract: the pattern of the NaN is computed.
 use mathlib.Core.Path.{refl, sym, ap}
 use lib.Ieee.{binary64, toBits}
 use Rattle.laws.proofs.Tests.{number-test, nan-test}

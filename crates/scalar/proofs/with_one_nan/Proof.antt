@@ -1,4 +1,4 @@
--- `scalar::with_one_nan` meets its contract: what differs from itself is the NaN. Assumes nothing.
+-- `scalar::with_one_nan` meets its contract: what differs from itself is the NaN.
 use mathlib.Core.Path.{sym, _∙_}
 use borrow.Author.Needs.{needs}
 use Rattle.laws.proofs.Tests.{nan-test}

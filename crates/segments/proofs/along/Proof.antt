@@ -1,4 +1,4 @@
--- `segments::along` meets its contract. Assumes nothing.
+-- `segments::along` meets its contract.
 use Rattle.segments.specs.Project.{along}
 use borrow.Author.Needs.{needs}
 use Rattle.segments.proofs.along.Statement.{statement}

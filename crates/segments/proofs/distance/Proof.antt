@@ -1,4 +1,4 @@
--- `segments::distance` meets its contract. Assumes nothing.
+-- `segments::distance` meets its contract.
 use Rattle.segments.specs.Project.{distance}
 use borrow.Author.Needs.{needs}
 use Rattle.segments.proofs.distance.Statement.{statement}

@@ -1,4 +1,4 @@
--- `segments::intersect_segments` meets its contract. Assumes nothing.
+-- `segments::intersect_segments` meets its contract.
 use Rattle.segments.specs.Segments.{intersectSegments}
 use borrow.Author.Needs.{needs}
 use Rattle.segments.proofs.intersect_segments.Statement.{statement}

@@ -1,4 +1,4 @@
--- `segments::line_line_intersection` meets its contract. Assumes nothing.
+-- `segments::line_line_intersection` meets its contract.
 use Rattle.segments.specs.Lines.{lineLineIntersection}
 use borrow.Author.Needs.{needs}
 use Rattle.segments.proofs.line_line_intersection.Statement.{statement}

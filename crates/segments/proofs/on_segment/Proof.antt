@@ -1,4 +1,4 @@
--- `segments::on_segment` meets its contract. Assumes nothing.
+-- `segments::on_segment` meets its contract.
 use mathlib.Core.Path.{refl}
 use Rattle.segments.specs.Segments.{onSegment}
 use Rattle.segments.proofs.on_segment.Statement.{statement}

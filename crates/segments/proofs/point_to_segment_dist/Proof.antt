@@ -1,4 +1,4 @@
--- `segments::point_to_segment_dist` meets its contract. Assumes nothing.
+-- `segments::point_to_segment_dist` meets its contract.
 use Rattle.segments.specs.Project.{pointToSegmentDist}
 use borrow.Author.Needs.{needs}
 use Rattle.segments.proofs.point_to_segment_dist.Statement.{statement}

@@ -1,4 +1,4 @@
--- `segments::project_onto_segment` meets its contract. Assumes nothing.
+-- `segments::project_onto_segment` meets its contract.
 use Rattle.segments.specs.Project.{projectOntoSegment}
 use borrow.Author.Needs.{needs}
 use Rattle.segments.proofs.project_onto_segment.Statement.{statement}

@@ -1,4 +1,4 @@
--- `sine::cos` meets its contract. Assumes nothing.
+-- `sine::cos` meets its contract.
 use borrow.Author.Needs.{needs}
 use Rattle.sine.proofs.cos.Statement.{statement}
 use Rattle.sine.proofs.cos.Tie as tie

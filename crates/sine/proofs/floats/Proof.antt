@@ -1,4 +1,4 @@
--- `sine::floats` meets its contract: what is in range stays as it is. Assumes nothing.
+-- `sine::floats` meets its contract: what is in range stays as it is.
 use mathlib.Core.Path.{_≡_, refl, sym, _∙_}
 use mathlib.Core.Bool.{false, _||_}
 use Prim.Native.Nat.{_^_}

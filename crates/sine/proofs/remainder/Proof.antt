@@ -1,4 +1,4 @@
--- `sine::remainder` meets its contract. Assumes nothing.
+-- `sine::remainder` meets its contract.
 use borrow.Author.Needs.{needs}
 use Rattle.sine.specs.Angle.{tau}
 use Rattle.sine.proofs.remainder.Statement.{statement}

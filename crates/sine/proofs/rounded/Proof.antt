@@ -1,4 +1,4 @@
--- `sine::rounded` meets its contract. Assumes nothing.
+-- `sine::rounded` meets its contract.
 use mathlib.Core.Path.{_≡_, _∙_}
 use borrow.Author.Needs.{needs}
 use Rattle.sine.specs.Rule.{sineUnits, cosineUnits}

@@ -1,4 +1,4 @@
--- `sine::sin` meets its contract. Assumes nothing.
+-- `sine::sin` meets its contract.
 use borrow.Author.Needs.{needs}
 use Rattle.sine.proofs.sin.Statement.{statement}
 use Rattle.sine.proofs.sin.Tie as tie

@@ -1,4 +1,4 @@
--- `sine::sin_cos` meets its contract. Assumes nothing.
+-- `sine::sin_cos` meets its contract.
 use mathlib.Core.Path.{_∙_}
 use native.Mathlib.Omega.{arith}
 use borrow.Author.Needs.{needs}

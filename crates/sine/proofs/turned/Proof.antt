@@ -1,4 +1,4 @@
--- `sine::turned` meets its contract. Assumes nothing.
+-- `sine::turned` meets its contract.
 use borrow.Author.Needs.{needs}
 use Rattle.sine.specs.Rule.{places, float}
 use Rattle.sine.proofs.turned.Statement.{statement}

@@ -1,5 +1,5 @@
 -- `sine_table::node_cosine` reads the table: each arm is the number at its index, and past the arms there is none.
--- Written by crates/sine_table/tools/table.py. Assumes nothing.
+-- Written by crates/sine_table/tools/table.py.
 use mathlib.Core.Path.{_≡_, refl, sym}
 use Prim.Native.Nat.{ℕ}
 use lib.ListN.{getD, List·getD-eq-default}

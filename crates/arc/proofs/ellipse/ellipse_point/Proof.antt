@@ -1,4 +1,4 @@
--- `arc::ellipse::ellipse_point` meets its contract. Assumes nothing.
+-- `arc::ellipse::ellipse_point` meets its contract.
 use Rattle.arc.specs.Ellipse.{ellipsePoint}
 use borrow.Author.Needs.{needs}
 use Rattle.arc.proofs.ellipse.ellipse_point.Statement.{statement}

@@ -1,4 +1,4 @@
--- `arc::ellipse::ellipse_tangent` meets its contract. Assumes nothing.
+-- `arc::ellipse::ellipse_tangent` meets its contract.
 use Rattle.arc.specs.Ellipse.{ellipseTangent}
 use borrow.Author.Needs.{needs}
 use Rattle.arc.proofs.ellipse.ellipse_tangent.Statement.{statement}

@@ -1,4 +1,4 @@
--- `arc::span::arc_param_at_point` meets its contract. Assumes nothing.
+-- `arc::span::arc_param_at_point` meets its contract.
 use Rattle.arc.specs.Frame.{arcParamAtPoint}
 use borrow.Author.Needs.{needs}
 use Rattle.arc.proofs.span.arc_param_at_point.Statement.{statement}

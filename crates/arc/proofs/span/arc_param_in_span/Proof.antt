@@ -1,4 +1,4 @@
--- `arc::span::arc_param_in_span` meets its contract. Assumes nothing.
+-- `arc::span::arc_param_in_span` meets its contract.
 use Rattle.arc.specs.Span.{arcParamInSpan}
 use borrow.Author.Needs.{needs}
 use Rattle.arc.proofs.span.arc_param_in_span.Statement.{statement}

@@ -1,4 +1,4 @@
--- `arc::span::arc_radii` meets its contract. Assumes nothing.
+-- `arc::span::arc_radii` meets its contract.
 use Rattle.arc.specs.Frame.{arcRadii}
 use Rattle.arc.proofs.span.arc_radii.Statement.{statement}
 use Rattle.arc.proofs.span.arc_radii.Tie as tie

@@ -1,4 +1,4 @@
--- `arc::span::arc_theta_of_pos` meets its contract. Assumes nothing.
+-- `arc::span::arc_theta_of_pos` meets its contract.
 use Rattle.arc.specs.Frame.{arcThetaOfPos}
 use borrow.Author.Needs.{needs}
 use Rattle.arc.proofs.span.arc_theta_of_pos.Statement.{statement}

@@ -1,4 +1,4 @@
--- `arc::span::norm_tau` meets its contract. Assumes nothing.
+-- `arc::span::norm_tau` meets its contract.
 use Rattle.arc.specs.Span.{normTau}
 use Rattle.arc.proofs.span.norm_tau.Statement.{statement}
 use Rattle.arc.proofs.span.norm_tau.Tie as tie

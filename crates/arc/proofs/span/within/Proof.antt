@@ -1,4 +1,4 @@
--- `arc::span::within` meets its contract. Assumes nothing.
+-- `arc::span::within` meets its contract.
 use Rattle.arc.specs.Span.{within}
 use Rattle.arc.proofs.span.within.Statement.{statement}
 use Rattle.arc.proofs.span.within.Tie as tie

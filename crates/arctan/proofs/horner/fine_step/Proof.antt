@@ -1,4 +1,4 @@
--- `arctan::horner::fine_step` meets its contract. Assumes nothing.
+-- `arctan::horner::fine_step` meets its contract.
 use mathlib.Core.Path.{refl}
 use native.Mathlib.Omega.{arith}
 use Rattle.fixed.specs.High.{high}

@@ -1,4 +1,4 @@
--- `arctan::horner::float` meets its contract. Assumes nothing.
+-- `arctan::horner::float` meets its contract.
 use mathlib.Core.Path.{refl}
 use Rattle.arctan.specs.Rule.{floatOf}
 use borrow.Author.Needs.{needs}

@@ -1,4 +1,4 @@
--- `arctan::horner::less_if` meets its contract. Assumes nothing.
+-- `arctan::horner::less_if` meets its contract.
 use borrow.Author.Needs.{needs}
 use Rattle.arctan.proofs.horner.less_if.Statement.{statement}
 use Rattle.arctan.proofs.horner.less_if.Tie as tie

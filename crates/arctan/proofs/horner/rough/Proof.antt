@@ -1,4 +1,4 @@
--- `arctan::horner::rough` meets its contract. Assumes nothing.
+-- `arctan::horner::rough` meets its contract.
 use mathlib.Core.Path.{refl}
 use Prim.Native.Nat.{ℕ, _≤_, _*_, _/_}
 use native.Mathlib.Nat.{mul-le-mul}

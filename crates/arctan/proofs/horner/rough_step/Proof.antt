@@ -1,4 +1,4 @@
--- `arctan::horner::rough_step` meets its contract. Assumes nothing.
+-- `arctan::horner::rough_step` meets its contract.
 use mathlib.Core.Path.{refl}
 use native.Mathlib.Omega.{arith}
 use Rattle.arctan.specs.Rule.{rough, roughStep}

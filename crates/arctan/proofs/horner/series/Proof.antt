@@ -1,4 +1,4 @@
--- `arctan::horner::series` meets its contract. Assumes nothing.
+-- `arctan::horner::series` meets its contract.
 use mathlib.Core.Path.{_∙_, ap}
 use Prim.Native.Nat.{ℕ, _+_}
 use native.Mathlib.Omega.{arith}

@@ -1,5 +1,5 @@
 -- `arctan::table::look` meets its contract: each arm is the row of its number, and past the arms the number is the last row's or above.
--- Written by crates/arctan_table/tools/table.py. Assumes nothing.
+-- Written by crates/arctan_table/tools/table.py.
 use mathlib.Core.Path.{_≡_, refl}
 use Prim.Native.Nat.{ℕ}
 use native.Mathlib.Nat.{min-eq-right}

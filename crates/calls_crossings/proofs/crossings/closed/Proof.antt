@@ -1,4 +1,4 @@
--- `calls_crossings::crossings::closed` meets its contract. Assumes nothing.
+-- `calls_crossings::crossings::closed` meets its contract.
 use mathlib.Core.Path.{refl}
 use borrow.Author.Needs.{needs}
 use Rattle.calls_crossings.proofs.crossings.closed.Statement.{statement}

@@ -1,4 +1,4 @@
--- `calls_crossings::crossings::intersect_segment_arc` meets its contract. Assumes nothing.
+-- `calls_crossings::crossings::intersect_segment_arc` meets its contract.
 use mathlib.Core.Path.{refl, sym, _∙_}
 use Rattle.calls_crossings.proofs.Rooms.{crossed-done, crossed-refused, room-fits, two-fit}
 use borrow.Author.Needs.{needs}

@@ -1,4 +1,4 @@
--- `calls_crossings::crossings::pair` meets its contract. Assumes nothing.
+-- `calls_crossings::crossings::pair` meets its contract.
 use native.Mathlib.Omega.{arith}
 use Rattle.calls_crossings.proofs.Rooms.{hits-hunted, hits-closed, pair-hunted, pair-closed, two-fit}
 use borrow.Author.Needs.{needs}

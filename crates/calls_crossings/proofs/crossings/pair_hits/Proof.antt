@@ -1,4 +1,4 @@
--- `calls_crossings::crossings::pair_hits` meets its contract. Assumes nothing.
+-- `calls_crossings::crossings::pair_hits` meets its contract.
 use mathlib.Core.Path.{sym}
 use Rattle.calls_crossings.proofs.Rooms.{hits-hunted, hits-closed}
 use borrow.Author.Needs.{needs}

@@ -1,4 +1,4 @@
--- `calls_crossings::crossings::segment_arc_refusal` meets its contract. Assumes nothing.
+-- `calls_crossings::crossings::segment_arc_refusal` meets its contract.
 use Rattle.checks.specs.Given.{tested}
 use borrow.Author.Needs.{needs}
 use Rattle.calls_crossings.proofs.crossings.segment_arc_refusal.Statement.{statement}

@@ -1,4 +1,4 @@
--- `calls_crossings::crossings::segments_refusal` meets its contract. Assumes nothing.
+-- `calls_crossings::crossings::segments_refusal` meets its contract.
 use Rattle.checks.specs.Given.{tested}
 use borrow.Author.Needs.{needs}
 use Rattle.calls_crossings.proofs.crossings.segments_refusal.Statement.{statement}

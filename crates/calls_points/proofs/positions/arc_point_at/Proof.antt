@@ -1,4 +1,4 @@
--- `calls_points::positions::arc_point_at` meets its contract. Assumes nothing.
+-- `calls_points::positions::arc_point_at` meets its contract.
 use Rattle.checks.specs.Given.{tested}
 use Rattle.calls_points.specs.Answers.{arcPointAtAnswer}
 use Rattle.calls_points.proofs.positions.arc_point_at.Statement.{statement}

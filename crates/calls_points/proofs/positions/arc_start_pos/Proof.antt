@@ -1,4 +1,4 @@
--- `calls_points::positions::arc_start_pos` meets its contract. Assumes nothing.
+-- `calls_points::positions::arc_start_pos` meets its contract.
 use Rattle.checks.specs.Given.{tested}
 use Rattle.calls_points.specs.Answers.{arcStartPosAnswer}
 use Rattle.calls_points.proofs.positions.arc_start_pos.Statement.{statement}

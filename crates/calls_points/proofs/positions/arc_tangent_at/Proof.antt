@@ -1,4 +1,4 @@
--- `calls_points::positions::arc_tangent_at` meets its contract. Assumes nothing.
+-- `calls_points::positions::arc_tangent_at` meets its contract.
 use Rattle.checks.specs.Given.{tested}
 use Rattle.calls_points.specs.Answers.{arcTangentAtAnswer}
 use Rattle.calls_points.proofs.positions.arc_tangent_at.Statement.{statement}

@@ -1,4 +1,4 @@
--- `calls_points::positions::ellipse_tangent` meets its contract. Assumes nothing.
+-- `calls_points::positions::ellipse_tangent` meets its contract.
 use Rattle.checks.specs.Given.{tested}
 use Rattle.calls_points.specs.Answers.{ellipseTangentAnswer}
 use Rattle.calls_points.proofs.positions.ellipse_tangent.Statement.{statement}

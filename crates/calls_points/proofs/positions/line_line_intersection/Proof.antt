@@ -1,4 +1,4 @@
--- `calls_points::positions::line_line_intersection` meets its contract. Assumes nothing.
+-- `calls_points::positions::line_line_intersection` meets its contract.
 use Rattle.checks.specs.Given.{tested}
 use Rattle.calls_points.specs.Answers.{lineLineIntersectionAnswer}
 use Rattle.calls_points.proofs.positions.line_line_intersection.Statement.{statement}

@@ -1,4 +1,4 @@
--- `calls_points::positions::point_to_segment_dist` meets its contract. Assumes nothing.
+-- `calls_points::positions::point_to_segment_dist` meets its contract.
 use Rattle.checks.specs.Given.{tested}
 use Rattle.calls_points.specs.Answers.{pointToSegmentDistAnswer}
 use Rattle.calls_points.proofs.positions.point_to_segment_dist.Statement.{statement}

@@ -1,4 +1,4 @@
--- `calls_points::positions::project_onto_segment` meets its contract. Assumes nothing.
+-- `calls_points::positions::project_onto_segment` meets its contract.
 use Rattle.checks.specs.Given.{tested}
 use Rattle.calls_points.specs.Answers.{projectOntoSegmentAnswer}
 use Rattle.calls_points.proofs.positions.project_onto_segment.Statement.{statement}

@@ -1,4 +1,4 @@
--- `calls_points::spans::arc_param_in_span` meets its contract. Assumes nothing.
+-- `calls_points::spans::arc_param_in_span` meets its contract.
 use Rattle.checks.specs.Given.{tested}
 use Rattle.calls_points.specs.Answers.{arcParamInSpanAnswer}
 use Rattle.calls_points.proofs.spans.arc_param_in_span.Statement.{statement}

@@ -1,4 +1,4 @@
--- `calls_points::spans::arc_radii` meets its contract. Assumes nothing.
+-- `calls_points::spans::arc_radii` meets its contract.
 use Rattle.checks.specs.Given.{tested}
 use Rattle.calls_points.specs.Answers.{arcRadiiAnswer}
 use Rattle.calls_points.proofs.spans.arc_radii.Statement.{statement}

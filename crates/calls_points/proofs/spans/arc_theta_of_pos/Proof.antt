@@ -1,4 +1,4 @@
--- `calls_points::spans::arc_theta_of_pos` meets its contract. Assumes nothing.
+-- `calls_points::spans::arc_theta_of_pos` meets its contract.
 use Rattle.checks.specs.Given.{tested}
 use Rattle.calls_points.specs.Answers.{arcThetaOfPosAnswer}
 use Rattle.calls_points.proofs.spans.arc_theta_of_pos.Statement.{statement}

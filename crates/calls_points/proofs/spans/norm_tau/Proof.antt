@@ -1,4 +1,4 @@
--- `calls_points::spans::norm_tau` meets its contract. Assumes nothing.
+-- `calls_points::spans::norm_tau` meets its contract.
 use Rattle.checks.specs.Given.{tested}
 use Rattle.calls_points.specs.Answers.{normTauAnswer}
 use Rattle.calls_points.proofs.spans.norm_tau.Statement.{statement}

@@ -1,4 +1,4 @@
--- `calls_shapes::calls::circle_tangent_through` meets its contract. Assumes nothing.
+-- `calls_shapes::calls::circle_tangent_through` meets its contract.
 use Rattle.checks.specs.Given.{tested}
 use Rattle.calls_shapes.specs.Answers.{circleTangentThroughAnswer}
 use Rattle.calls_shapes.proofs.calls.circle_tangent_through.Statement.{statement}

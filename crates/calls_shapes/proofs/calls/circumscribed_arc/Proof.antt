@@ -1,4 +1,4 @@
--- `calls_shapes::calls::circumscribed_arc` meets its contract. Assumes nothing.
+-- `calls_shapes::calls::circumscribed_arc` meets its contract.
 use Rattle.checks.specs.Given.{tested}
 use Rattle.calls_shapes.specs.Answers.{circumscribedArcAnswer}
 use Rattle.calls_shapes.proofs.calls.circumscribed_arc.Statement.{statement}

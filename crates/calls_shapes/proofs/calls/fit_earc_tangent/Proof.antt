@@ -1,4 +1,4 @@
--- `calls_shapes::calls::fit_earc_tangent` meets its contract. Assumes nothing.
+-- `calls_shapes::calls::fit_earc_tangent` meets its contract.
 use Rattle.checks.specs.Given.{tested}
 use Rattle.calls_shapes.specs.Answers.{fitEarcTangentAnswer}
 use Rattle.calls_shapes.proofs.calls.fit_earc_tangent.Statement.{statement}

@@ -1,4 +1,4 @@
--- `calls_shapes::calls::nearest_arc_param` meets its contract. Assumes nothing.
+-- `calls_shapes::calls::nearest_arc_param` meets its contract.
 use Rattle.checks.specs.Given.{tested}
 use Rattle.calls_shapes.specs.Answers.{nearestArcParamAnswer}
 use Rattle.calls_shapes.proofs.calls.nearest_arc_param.Statement.{statement}

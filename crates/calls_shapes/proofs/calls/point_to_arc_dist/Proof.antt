@@ -1,4 +1,4 @@
--- `calls_shapes::calls::point_to_arc_dist` meets its contract. Assumes nothing.
+-- `calls_shapes::calls::point_to_arc_dist` meets its contract.
 use Rattle.checks.specs.Given.{tested}
 use Rattle.calls_shapes.specs.Answers.{pointToArcDistAnswer}
 use Rattle.calls_shapes.proofs.calls.point_to_arc_dist.Statement.{statement}

@@ -1,4 +1,4 @@
--- `calls_shapes::calls::svg_arc_to_center` meets its contract. Assumes nothing.
+-- `calls_shapes::calls::svg_arc_to_center` meets its contract.
 use Rattle.checks.specs.Given.{tested}
 use Rattle.calls_shapes.specs.Answers.{svgArcToCenterAnswer}
 use Rattle.calls_shapes.proofs.calls.svg_arc_to_center.Statement.{statement}

@@ -1,4 +1,4 @@
--- `conics::axes::center` meets its contract. Assumes nothing.
+-- `conics::axes::center` meets its contract.
 use mathlib.Core.Path.{refl}
 use Rattle.conics.specs.Axes.{centerOf}
 use Rattle.conics.proofs.axes.center.Statement.{statement}

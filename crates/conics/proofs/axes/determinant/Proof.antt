@@ -1,4 +1,4 @@
--- `conics::axes::determinant` meets its contract. Assumes nothing.
+-- `conics::axes::determinant` meets its contract.
 use mathlib.Core.Path.{refl}
 use Rattle.conics.specs.Axes.{determinant}
 use Rattle.conics.proofs.axes.determinant.Statement.{statement}

@@ -1,4 +1,4 @@
--- `conics::axes::eigenvalues` meets its contract. Assumes nothing.
+-- `conics::axes::eigenvalues` meets its contract.
 use Rattle.conics.specs.Axes.{eigenvalues}
 use borrow.Author.Needs.{needs}
 use Rattle.conics.proofs.axes.eigenvalues.Statement.{statement}

@@ -1,4 +1,4 @@
--- `conics::axes::either_flat` meets its contract. Assumes nothing.
+-- `conics::axes::either_flat` meets its contract.
 use Rattle.conics.specs.Axes.{eitherFlat}
 use borrow.Author.Needs.{needs}
 use Rattle.conics.proofs.axes.either_flat.Statement.{statement}

@@ -1,4 +1,4 @@
--- `conics::axes::either_unreal` meets its contract. Assumes nothing.
+-- `conics::axes::either_unreal` meets its contract.
 use Rattle.conics.specs.Axes.{eitherUnreal}
 use Rattle.conics.proofs.axes.either_unreal.Statement.{statement}
 use Rattle.conics.proofs.axes.either_unreal.Tie as tie

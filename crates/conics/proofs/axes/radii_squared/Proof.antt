@@ -1,4 +1,4 @@
--- `conics::axes::radii_squared` meets its contract. Assumes nothing.
+-- `conics::axes::radii_squared` meets its contract.
 use mathlib.Core.Path.{refl}
 use Rattle.conics.specs.Axes.{radiiSquared}
 use Rattle.conics.proofs.axes.radii_squared.Statement.{statement}

@@ -1,4 +1,4 @@
--- `conics::axes::rotation` meets its contract. Assumes nothing.
+-- `conics::axes::rotation` meets its contract.
 use Rattle.conics.specs.Axes.{rotation}
 use borrow.Author.Needs.{needs}
 use Rattle.conics.proofs.axes.rotation.Statement.{statement}

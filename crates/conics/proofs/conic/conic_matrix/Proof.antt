@@ -1,4 +1,4 @@
--- `conics::conic::conic_matrix` meets its contract. Assumes nothing.
+-- `conics::conic::conic_matrix` meets its contract.
 use Rattle.conics.specs.Conic.{conicMatrix}
 use borrow.Author.Needs.{needs}
 use Rattle.conics.proofs.conic.conic_matrix.Statement.{statement}

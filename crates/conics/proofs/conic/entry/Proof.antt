@@ -1,4 +1,4 @@
--- `conics::conic::entry` meets its contract. Assumes nothing.
+-- `conics::conic::entry` meets its contract.
 use mathlib.Core.Path.{refl}
 use Rattle.conics.specs.Conic.{entry}
 use borrow.Author.Needs.{needs}

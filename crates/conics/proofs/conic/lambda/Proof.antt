@@ -1,4 +1,4 @@
--- `conics::conic::lambda` meets its contract. Assumes nothing.
+-- `conics::conic::lambda` meets its contract.
 use Rattle.conics.specs.Conic.{lambda}
 use borrow.Author.Needs.{needs}
 use Rattle.conics.proofs.conic.lambda.Statement.{statement}

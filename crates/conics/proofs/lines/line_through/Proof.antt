@@ -1,4 +1,4 @@
--- `conics::lines::line_through` meets its contract. Assumes nothing.
+-- `conics::lines::line_through` meets its contract.
 use mathlib.Core.Path.{refl}
 use Rattle.conics.specs.Lines.{lineThrough}
 use Rattle.conics.proofs.lines.line_through.Statement.{statement}

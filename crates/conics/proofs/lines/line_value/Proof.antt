@@ -1,4 +1,4 @@
--- `conics::lines::line_value` meets its contract. Assumes nothing.
+-- `conics::lines::line_value` meets its contract.
 use mathlib.Core.Path.{refl}
 use Rattle.conics.specs.Lines.{lineValue}
 use borrow.Author.Needs.{needs}

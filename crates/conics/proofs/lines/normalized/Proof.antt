@@ -1,4 +1,4 @@
--- `conics::lines::normalized` meets its contract. Assumes nothing.
+-- `conics::lines::normalized` meets its contract.
 use mathlib.Core.Path.{refl}
 use Rattle.conics.specs.Lines.{normalized}
 use borrow.Author.Needs.{needs}

@@ -1,4 +1,4 @@
--- `construct::center::about_center` meets its contract. Assumes nothing.
+-- `construct::center::about_center` meets its contract.
 use Rattle.construct.specs.Conversion.{aboutCenter}
 use borrow.Author.Needs.{needs}
 use Rattle.construct.proofs.center.about_center.Statement.{statement}

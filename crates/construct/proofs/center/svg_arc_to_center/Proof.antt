@@ -1,4 +1,4 @@
--- `construct::center::svg_arc_to_center` meets its contract. Assumes nothing.
+-- `construct::center::svg_arc_to_center` meets its contract.
 use Rattle.construct.specs.Conversion.{svgArcToCenter}
 use borrow.Author.Needs.{needs}
 use Rattle.construct.proofs.center.svg_arc_to_center.Statement.{statement}

@@ -1,4 +1,4 @@
--- `construct::svg::enlarged` meets its contract. Assumes nothing.
+-- `construct::svg::enlarged` meets its contract.
 use Rattle.construct.specs.OutOfRange.{enlarged}
 use borrow.Author.Needs.{needs}
 use Rattle.construct.proofs.svg.enlarged.Statement.{statement}

@@ -1,4 +1,4 @@
--- `construct::svg::identical` meets its contract. Assumes nothing.
+-- `construct::svg::identical` meets its contract.
 use Rattle.construct.specs.OutOfRange.{identical}
 use borrow.Author.Needs.{needs}
 use Rattle.construct.proofs.svg.identical.Statement.{statement}

@@ -1,4 +1,4 @@
--- `construct::svg::lambda` meets its contract. Assumes nothing.
+-- `construct::svg::lambda` meets its contract.
 use mathlib.Core.Path.{refl}
 use Rattle.construct.specs.OutOfRange.{lambda}
 use Rattle.construct.proofs.svg.lambda.Statement.{statement}

@@ -1,4 +1,4 @@
--- `construct::svg::primed` meets its contract. Assumes nothing.
+-- `construct::svg::primed` meets its contract.
 use mathlib.Core.Path.{refl}
 use Rattle.construct.specs.Svg.{primed}
 use Rattle.construct.proofs.svg.primed.Statement.{statement}

@@ -1,4 +1,4 @@
--- `construct::svg::primed_center` meets its contract. Assumes nothing.
+-- `construct::svg::primed_center` meets its contract.
 use Rattle.construct.specs.Svg.{primedCenter}
 use borrow.Author.Needs.{needs}
 use Rattle.construct.proofs.svg.primed_center.Statement.{statement}

@@ -1,4 +1,4 @@
--- `construct::svg::quotient_root` meets its contract. Assumes nothing.
+-- `construct::svg::quotient_root` meets its contract.
 use Rattle.construct.specs.Svg.{quotientRoot}
 use borrow.Author.Needs.{needs}
 use Rattle.construct.proofs.svg.quotient_root.Statement.{statement}

@@ -1,4 +1,4 @@
--- `construct::svg::scaled` meets its contract. Assumes nothing.
+-- `construct::svg::scaled` meets its contract.
 use mathlib.Core.Path.{refl}
 use Rattle.construct.specs.Svg.{scaled}
 use Rattle.construct.proofs.svg.scaled.Statement.{statement}

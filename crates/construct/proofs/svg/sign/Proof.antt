@@ -1,4 +1,4 @@
--- `construct::svg::sign` meets its contract. Assumes nothing.
+-- `construct::svg::sign` meets its contract.
 use Rattle.construct.specs.Svg.{sign}
 use Rattle.construct.proofs.svg.sign.Statement.{statement}
 use Rattle.construct.proofs.svg.sign.Tie as tie

@@ -1,4 +1,4 @@
--- `construct::svg::straight` meets its contract. Assumes nothing.
+-- `construct::svg::straight` meets its contract.
 use mathlib.Core.Path.{refl}
 use Rattle.construct.specs.OutOfRange.{straight}
 use Rattle.construct.proofs.svg.straight.Statement.{statement}

@@ -1,4 +1,4 @@
--- `construct::svg::swept` meets its contract. Assumes nothing.
+-- `construct::svg::swept` meets its contract.
 use Rattle.construct.specs.Svg.{swept}
 use Rattle.construct.proofs.svg.swept.Statement.{statement}
 use Rattle.construct.proofs.svg.swept.Tie as tie

@@ -1,4 +1,4 @@
--- `construct::svg::turned_back` meets its contract. Assumes nothing.
+-- `construct::svg::turned_back` meets its contract.
 use mathlib.Core.Path.{refl}
 use Rattle.construct.specs.Svg.{turnedBack}
 use Rattle.construct.proofs.svg.turned_back.Statement.{statement}

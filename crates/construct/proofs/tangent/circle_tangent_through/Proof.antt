@@ -1,4 +1,4 @@
--- `construct::tangent::circle_tangent_through` meets its contract. Assumes nothing.
+-- `construct::tangent::circle_tangent_through` meets its contract.
 use Rattle.construct.specs.TangentCircle.{circleTangentThrough}
 use borrow.Author.Needs.{needs}
 use Rattle.construct.proofs.tangent.circle_tangent_through.Statement.{statement}

@@ -1,4 +1,4 @@
--- `construct::three_points::bearing` meets its contract. Assumes nothing.
+-- `construct::three_points::bearing` meets its contract.
 use Rattle.construct.specs.Circumscribed.{bearing}
 use borrow.Author.Needs.{needs}
 use Rattle.construct.proofs.three_points.bearing.Statement.{statement}

@@ -1,4 +1,4 @@
--- `construct::three_points::circumcenter` meets its contract. Assumes nothing.
+-- `construct::three_points::circumcenter` meets its contract.
 use mathlib.Core.Path.{refl}
 use Rattle.construct.specs.Circumscribed.{circumcenter}
 use Rattle.construct.proofs.three_points.circumcenter.Statement.{statement}

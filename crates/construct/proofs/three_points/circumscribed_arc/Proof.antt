@@ -1,4 +1,4 @@
--- `construct::three_points::circumscribed_arc` meets its contract. Assumes nothing.
+-- `construct::three_points::circumscribed_arc` meets its contract.
 use Rattle.construct.specs.Circumscribed.{circumscribedArc}
 use borrow.Author.Needs.{needs}
 use Rattle.construct.proofs.three_points.circumscribed_arc.Statement.{statement}

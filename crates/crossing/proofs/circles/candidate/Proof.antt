@@ -1,4 +1,4 @@
--- `crossing::circles::candidate` meets its contract. Assumes nothing.
+-- `crossing::circles::candidate` meets its contract.
 use Rattle.crossing.specs.Circles.{candidate}
 use borrow.Author.Needs.{needs}
 use Rattle.crossing.proofs.circles.candidate.Statement.{statement}

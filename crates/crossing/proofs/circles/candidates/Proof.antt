@@ -1,4 +1,4 @@
--- `crossing::circles::candidates` meets its contract. Assumes nothing.
+-- `crossing::circles::candidates` meets its contract.
 use Rattle.crossing.specs.Circles.{candidates}
 use borrow.Author.Needs.{needs}
 use Rattle.crossing.proofs.circles.candidates.Statement.{statement}

@@ -1,4 +1,4 @@
--- `crossing::circles::half_chord` meets its contract. Assumes nothing.
+-- `crossing::circles::half_chord` meets its contract.
 use Rattle.crossing.specs.Circles.{halfChord}
 use borrow.Author.Needs.{needs}
 use Rattle.crossing.proofs.circles.half_chord.Statement.{statement}

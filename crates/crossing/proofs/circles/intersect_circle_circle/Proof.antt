@@ -1,4 +1,4 @@
--- `crossing::circles::intersect_circle_circle` meets its contract. Assumes nothing.
+-- `crossing::circles::intersect_circle_circle` meets its contract.
 use Rattle.crossing.specs.Circles.{intersectCircleCircle}
 use borrow.Author.Needs.{needs}
 use Rattle.crossing.proofs.circles.intersect_circle_circle.Statement.{statement}

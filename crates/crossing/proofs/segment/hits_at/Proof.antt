@@ -1,4 +1,4 @@
--- `crossing::segment::hits_at` meets its contract. Assumes nothing.
+-- `crossing::segment::hits_at` meets its contract.
 use borrow.Author.Needs.{needs}
 use Rattle.crossing.proofs.segment.hits_at.Statement.{statement}
 use Rattle.crossing.proofs.segment.hits_at.Tie as tie

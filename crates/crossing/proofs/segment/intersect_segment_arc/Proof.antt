@@ -1,4 +1,4 @@
--- `crossing::segment::intersect_segment_arc` meets its contract. Assumes nothing.
+-- `crossing::segment::intersect_segment_arc` meets its contract.
 use Rattle.crossing.specs.SegmentArc.{intersectSegmentArc}
 use borrow.Author.Needs.{needs}
 use Rattle.crossing.proofs.segment.intersect_segment_arc.Statement.{statement}

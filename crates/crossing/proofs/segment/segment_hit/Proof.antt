@@ -1,4 +1,4 @@
--- `crossing::segment::segment_hit` meets its contract. Assumes nothing.
+-- `crossing::segment::segment_hit` meets its contract.
 use Rattle.crossing.specs.SegmentArc.{segmentHit}
 use borrow.Author.Needs.{needs}
 use Rattle.crossing.proofs.segment.segment_hit.Statement.{statement}

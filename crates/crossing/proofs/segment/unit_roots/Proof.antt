@@ -1,4 +1,4 @@
--- `crossing::segment::unit_roots` meets its contract. Assumes nothing.
+-- `crossing::segment::unit_roots` meets its contract.
 use Rattle.crossing.specs.SegmentArc.{unitRoots}
 use borrow.Author.Needs.{needs}
 use Rattle.crossing.proofs.segment.unit_roots.Statement.{statement}

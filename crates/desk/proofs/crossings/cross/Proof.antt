@@ -1,4 +1,4 @@
--- `cross` writes what the query on two curves tells. Assumes nothing.
+-- `cross` writes what the query on two curves tells.
 use mathlib.Core.Path.{_≡_, sym, ap, _∙_}
 use native.Mathlib.Omega.{arith}
 use lib.ListN.{length}

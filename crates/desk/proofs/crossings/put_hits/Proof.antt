@@ -1,4 +1,4 @@
--- `put_hits` writes one line after the other. The invariant: with the lines from hit i on, the buffer is as promised. Assumes nothing.
+-- `put_hits` writes one line after the other. The invariant: with the lines from hit i on, the buffer is as promised.
 use mathlib.Core.Path.{_≡_, refl}
 use Prim.Native.Nat.{_+_, _*_, _-_, _≤_}
 use native.Mathlib.Omega.{arith}

@@ -1,4 +1,4 @@
--- `query` looks both records up. Assumes nothing.
+-- `query` looks both records up.
 use mathlib.Core.Path.{sym}
 use Rattle.hits.proofs.Rooms.{written-none}
 use Rattle.desk.proofs.Tables.{first-held, second-held, query-held, query-missing}

@@ -1,4 +1,4 @@
--- `desk::records::held` meets its contract. Assumes nothing.
+-- `desk::records::held` meets its contract.
 use borrow.Author.Tests.{lt-ltb, le-ltb, le-leb, lt-leb}
 use native.Mathlib.Omega.{arith}
 use Rattle.desk.specs.Table.{held}

@@ -1,4 +1,4 @@
--- `keep` takes a record or refuses it. Assumes nothing.
+-- `keep` takes a record or refuses it.
 use mathlib.Core.Path.{_≡_, refl, sym, _∙_}
 use borrow.Author.Tests.{ne-eqb}
 use Rattle.digits.proofs.Spliced.{put-none}

@@ -1,4 +1,4 @@
--- `desk::records::record_at` meets its contract. Assumes nothing.
+-- `desk::records::record_at` meets its contract.
 use native.Mathlib.Omega.{arith}
 use borrow.Author.Needs.{needs}
 use Rattle.desk.proofs.Tables.{held-within}

@@ -1,4 +1,4 @@
--- `desk::records::record_refusal` meets its contract. Assumes nothing.
+-- `desk::records::record_refusal` meets its contract.
 use borrow.Author.Tests.{lt-ltb, le-ltb}
 use Rattle.desk.specs.Refused.{recordRefusal}
 use borrow.Author.Needs.{needs}

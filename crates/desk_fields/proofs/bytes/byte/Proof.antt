@@ -1,4 +1,4 @@
--- `bytes::byte` reads a place, and 0 past the end. Assumes nothing.
+-- `bytes::byte` reads a place, and 0 past the end.
 use mathlib.Core.Path.{sym}
 use native.Mathlib.Omega.{arith}
 use lib.ListN.{List·getD-eq-default}

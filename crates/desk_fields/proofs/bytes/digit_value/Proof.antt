@@ -1,4 +1,4 @@
--- `bytes::digit_value` meets its contract. Assumes nothing.
+-- `bytes::digit_value` meets its contract.
 use mathlib.Core.Path.{sym}
 use native.Mathlib.Omega.{arith}
 use Rattle.desk_fields.proofs.Digits.{digit-before, digit-value, digit-past}

@@ -1,4 +1,4 @@
--- `bytes::tab` meets its contract. Assumes nothing.
+-- `bytes::tab` meets its contract.
 use borrow.Author.Needs.{needs}
 use Rattle.desk_fields.proofs.bytes.tab.Statement.{statement}
 use Rattle.desk_fields.proofs.bytes.tab.Tie as tie

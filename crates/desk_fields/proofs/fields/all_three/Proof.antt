@@ -1,4 +1,4 @@
--- `fields::all_three` meets its contract. Assumes nothing.
+-- `fields::all_three` meets its contract.
 use borrow.Author.Needs.{needs}
 use Rattle.desk_fields.proofs.fields.all_three.Statement.{statement}
 use Rattle.desk_fields.proofs.fields.all_three.Tie as tie

@@ -1,4 +1,4 @@
--- `fields::bits` takes one hex digit at a turn. The invariant: the reading is that of the digits from i on, after the value so far, which is below 16 to the power i. Assumes nothing.
+-- `fields::bits` takes one hex digit at a turn. The invariant: the reading is that of the digits from i on, after the value so far, which is below 16 to the power i.
 use mathlib.Core.Path.{_≡_, sym, _∙_}
 use Prim.Native.Nat.{_+_, _-_, _≤_, _<_}
 use native.Mathlib.Omega.{arith}

@@ -1,4 +1,4 @@
--- `fields::capped` gives the smaller of the two. Assumes nothing.
+-- `fields::capped` gives the smaller of the two.
 use native.Mathlib.Omega.{arith}
 use Rattle.desk_fields.proofs.fields.capped.Statement.{statement}
 use Rattle.desk_fields.proofs.fields.capped.Tie as tie

@@ -1,4 +1,4 @@
--- `fields::digit` meets its contract. Assumes nothing.
+-- `fields::digit` meets its contract.
 use mathlib.Core.Path.{sym, _∙_}
 use borrow.Author.Tests.{eqb-true, eqb-false}
 use Rattle.desk_fields.proofs.Places.{digit-tab, digit-above, digit-else}

@@ -1,4 +1,4 @@
--- `fields::four` meets its contract. Assumes nothing.
+-- `fields::four` meets its contract.
 use Rattle.desk_fields.proofs.Triples.{four-at}
 use borrow.Author.Needs.{needs}
 use Rattle.desk_fields.proofs.fields.four.Statement.{statement}

@@ -1,4 +1,4 @@
--- `fields::marks` meets its contract. Assumes nothing.
+-- `fields::marks` meets its contract.
 use Rattle.desk_fields.proofs.Triples.{marks-at}
 use borrow.Author.Needs.{needs}
 use Rattle.desk_fields.proofs.fields.marks.Statement.{statement}

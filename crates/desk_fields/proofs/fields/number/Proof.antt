@@ -1,4 +1,4 @@
--- `fields::number` meets its contract. Assumes nothing.
+-- `fields::number` meets its contract.
 use mathlib.Core.Path.{sym, _∙_}
 use borrow.Author.Tests.{eqb-true, eqb-false}
 use Rattle.desk_fields.proofs.Places.{number-tab, number-else}

@@ -1,4 +1,4 @@
--- `fields::record` meets its contract. Assumes nothing.
+-- `fields::record` meets its contract.
 use mathlib.Core.Path.{sym, _∙_}
 use borrow.Author.Tests.{eqb-true, eqb-false}
 use Rattle.desk_fields.proofs.Places.{record-tab, record-nought, record-no-digit, record-else}

@@ -1,4 +1,4 @@
--- `fields::run` takes one digit at a turn. The invariant: the run is that of the digits from i on, after the value so far. Assumes nothing.
+-- `fields::run` takes one digit at a turn. The invariant: the run is that of the digits from i on, after the value so far.
 use mathlib.Core.Path.{_≡_, sym, _∙_}
 use Prim.Native.Nat.{_-_, _≤_, _<_}
 use native.Mathlib.Omega.{arith}

@@ -1,4 +1,4 @@
--- `fields::three` meets its contract. Assumes nothing.
+-- `fields::three` meets its contract.
 use Rattle.desk_fields.proofs.Triples.{three-at}
 use borrow.Author.Needs.{needs}
 use Rattle.desk_fields.proofs.fields.three.Statement.{statement}

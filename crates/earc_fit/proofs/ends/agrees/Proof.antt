@@ -1,4 +1,4 @@
--- `earc_fit::ends::agrees` meets its contract. Assumes nothing.
+-- `earc_fit::ends::agrees` meets its contract.
 use Rattle.earc_fit.specs.Ends.{agrees}
 use borrow.Author.Needs.{needs}
 use Rattle.earc_fit.proofs.ends.agrees.Statement.{statement}

@@ -1,4 +1,4 @@
--- `earc_fit::ends::fitted_arc` meets its contract. Assumes nothing.
+-- `earc_fit::ends::fitted_arc` meets its contract.
 use Rattle.earc_fit.specs.Ends.{fittedArc}
 use borrow.Author.Needs.{needs}
 use Rattle.earc_fit.proofs.ends.fitted_arc.Statement.{statement}

@@ -1,4 +1,4 @@
--- `earc_fit::ends::parametric` meets its contract. Assumes nothing.
+-- `earc_fit::ends::parametric` meets its contract.
 use Rattle.earc_fit.specs.Ends.{parametric}
 use borrow.Author.Needs.{needs}
 use Rattle.earc_fit.proofs.ends.parametric.Statement.{statement}

@@ -1,4 +1,4 @@
--- `earc_fit::target::bulge_sign` meets its contract. Assumes nothing.
+-- `earc_fit::target::bulge_sign` meets its contract.
 use Rattle.earc_fit.specs.Target.{bulgeSign}
 use borrow.Author.Needs.{needs}
 use Rattle.earc_fit.proofs.target.bulge_sign.Statement.{statement}

@@ -1,4 +1,4 @@
--- `earc_fit::target::target_mid` meets its contract. Assumes nothing.
+-- `earc_fit::target::target_mid` meets its contract.
 use mathlib.Core.Path.{refl}
 use Rattle.earc_fit.specs.Target.{targetMid}
 use Rattle.earc_fit.proofs.target.target_mid.Statement.{statement}

@@ -1,4 +1,4 @@
--- `export_crossings::closed::arcs_hit` meets its contract. Assumes nothing.
+-- `export_crossings::closed::arcs_hit` meets its contract.
 use mathlib.Core.Path.{refl}
 use mathlib.Core.List.{[], _∷_}
 use borrow.Author.Tests.{lt-ltb, le-ltb}

@@ -1,4 +1,4 @@
--- `export_crossings::closed::arcs_intersect_segment_arc` meets its contract. Assumes nothing.
+-- `export_crossings::closed::arcs_intersect_segment_arc` meets its contract.
 use Rattle.export_crossings.proofs.Rooms.{hits-out, hits-short}
 use Rattle.calls_crossings.specs.Answers.{segmentArcAnswer}
 use borrow.Author.Needs.{needs}

@@ -1,4 +1,4 @@
--- `export_crossings::counts::count_found` meets its contract. Assumes nothing.
+-- `export_crossings::counts::count_found` meets its contract.
 use mathlib.Core.List.{[], _∷_}
 use mathlib.Core.Path.{refl}
 use Rattle.rooms.proofs.Laws.{stored-over}

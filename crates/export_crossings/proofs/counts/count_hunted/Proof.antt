@@ -1,4 +1,4 @@
--- `export_crossings::counts::count_hunted` meets its contract. Assumes nothing.
+-- `export_crossings::counts::count_hunted` meets its contract.
 use mathlib.Core.List.{[], _∷_}
 use mathlib.Core.Path.{refl}
 use native.Mathlib.Omega.{arith}

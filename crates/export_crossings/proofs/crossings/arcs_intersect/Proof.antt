@@ -1,4 +1,4 @@
--- `export_crossings::crossings::arcs_intersect` meets its contract. Assumes nothing.
+-- `export_crossings::crossings::arcs_intersect` meets its contract.
 use Rattle.export_crossings.proofs.Rooms.{hits-out, hits-short}
 use Rattle.calls_curves.specs.Curves.{curvesAnswer}
 use borrow.Author.Needs.{needs}

@@ -1,4 +1,4 @@
--- `export_crossings::crossings::arcs_intersect_arcs` meets its contract. Assumes nothing.
+-- `export_crossings::crossings::arcs_intersect_arcs` meets its contract.
 use Rattle.export_crossings.proofs.Rooms.{hits-out, hits-short}
 use Rattle.calls_crossings.specs.Answers.{arcsAnswer}
 use borrow.Author.Needs.{needs}

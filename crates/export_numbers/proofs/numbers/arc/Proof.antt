@@ -1,4 +1,4 @@
--- `export_numbers::numbers::arc` meets its contract. Assumes nothing.
+-- `export_numbers::numbers::arc` meets its contract.
 use mathlib.Core.Path.{refl}
 use Rattle.export_numbers.specs.Lent.{lentArc}
 use Rattle.export_numbers.proofs.numbers.arc.Statement.{statement}

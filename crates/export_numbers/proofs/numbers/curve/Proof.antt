@@ -1,4 +1,4 @@
--- `export_numbers::numbers::curve` meets its contract. Assumes nothing.
+-- `export_numbers::numbers::curve` meets its contract.
 use mathlib.Core.Path.{_≡_, refl}
 use Prim.Native.Nat.{_/_, _%_}
 use Rattle.export_numbers.specs.Lent.{lentCurve}

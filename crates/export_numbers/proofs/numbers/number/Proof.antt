@@ -1,4 +1,4 @@
--- `export_numbers::numbers::number` meets its contract. Assumes nothing.
+-- `export_numbers::numbers::number` meets its contract.
 use mathlib.Core.Path.{sym, _∙_}
 use lib.Ieee.{nan}
 use lib.ListN.{List·getD-eq-default}

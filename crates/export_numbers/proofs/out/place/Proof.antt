@@ -1,4 +1,4 @@
--- `export_numbers::out::place` places one number after the other. The invariant: what is left to place from i on. Assumes nothing.
+-- `export_numbers::out::place` places one number after the other. The invariant: what is left to place from i on.
 use mathlib.Core.Path.{_≡_, refl, sym, _∙_}
 use Prim.Native.Nat.{_≤_, _-_}
 use native.Mathlib.Omega.{arith}

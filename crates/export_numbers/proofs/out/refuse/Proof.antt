@@ -1,4 +1,4 @@
--- `export_numbers::out::refuse` meets its contract. Assumes nothing.
+-- `export_numbers::out::refuse` meets its contract.
 use mathlib.Core.Path.{_≡_, refl}
 use mathlib.Core.Bool.{true, false, _&&_}
 use borrow.Author.Tests.{lt-ltb, le-ltb}

@@ -1,4 +1,4 @@
--- `export_numbers::out::write` meets its contract. Assumes nothing.
+-- `export_numbers::out::write` meets its contract.
 use mathlib.Core.Path.{refl}
 use lib.ListN.{length}
 use borrow.Author.Tests.{lt-ltb, le-ltb}

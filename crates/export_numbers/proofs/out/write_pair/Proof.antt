@@ -1,4 +1,4 @@
--- `export_numbers::out::write_pair` meets its contract. Assumes nothing.
+-- `export_numbers::out::write_pair` meets its contract.
 use mathlib.Core.Path.{ap}
 use Rattle.checks.specs.Answer.{pairTold}
 use Rattle.export_numbers.proofs.Written.{numbers-out, refused-out}

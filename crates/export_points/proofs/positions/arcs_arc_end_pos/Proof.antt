@@ -1,4 +1,4 @@
--- `export_points::positions::arcs_arc_end_pos` meets its contract. Assumes nothing.
+-- `export_points::positions::arcs_arc_end_pos` meets its contract.
 use borrow.Author.Needs.{needs}
 use Rattle.export_points.proofs.positions.arcs_arc_end_pos.Statement.{statement}
 use Rattle.export_points.proofs.positions.arcs_arc_end_pos.Tie as tie

@@ -1,4 +1,4 @@
--- `export_points::positions::arcs_arc_tangent_at` meets its contract. Assumes nothing.
+-- `export_points::positions::arcs_arc_tangent_at` meets its contract.
 use borrow.Author.Needs.{needs}
 use Rattle.export_points.proofs.positions.arcs_arc_tangent_at.Statement.{statement}
 use Rattle.export_points.proofs.positions.arcs_arc_tangent_at.Tie as tie

@@ -1,4 +1,4 @@
--- `export_points::positions::arcs_ellipse_point` meets its contract. Assumes nothing.
+-- `export_points::positions::arcs_ellipse_point` meets its contract.
 use borrow.Author.Needs.{needs}
 use Rattle.export_points.proofs.positions.arcs_ellipse_point.Statement.{statement}
 use Rattle.export_points.proofs.positions.arcs_ellipse_point.Tie as tie

@@ -1,4 +1,4 @@
--- `export_points::positions::arcs_line_line_intersection` meets its contract. Assumes nothing.
+-- `export_points::positions::arcs_line_line_intersection` meets its contract.
 use borrow.Author.Needs.{needs}
 use Rattle.export_points.proofs.positions.arcs_line_line_intersection.Statement.{statement}
 use Rattle.export_points.proofs.positions.arcs_line_line_intersection.Tie as tie

@@ -1,4 +1,4 @@
--- `export_points::positions::arcs_point_to_segment_dist` meets its contract. Assumes nothing.
+-- `export_points::positions::arcs_point_to_segment_dist` meets its contract.
 use borrow.Author.Needs.{needs}
 use Rattle.export_points.proofs.positions.arcs_point_to_segment_dist.Statement.{statement}
 use Rattle.export_points.proofs.positions.arcs_point_to_segment_dist.Tie as tie

@@ -1,4 +1,4 @@
--- `export_points::positions::arcs_project_onto_segment` meets its contract. Assumes nothing.
+-- `export_points::positions::arcs_project_onto_segment` meets its contract.
 use borrow.Author.Needs.{needs}
 use Rattle.export_points.proofs.positions.arcs_project_onto_segment.Statement.{statement}
 use Rattle.export_points.proofs.positions.arcs_project_onto_segment.Tie as tie

@@ -1,4 +1,4 @@
--- `export_points::spans::arcs_arc_param_at_point` meets its contract. Assumes nothing.
+-- `export_points::spans::arcs_arc_param_at_point` meets its contract.
 use borrow.Author.Needs.{needs}
 use Rattle.export_points.proofs.spans.arcs_arc_param_at_point.Statement.{statement}
 use Rattle.export_points.proofs.spans.arcs_arc_param_at_point.Tie as tie

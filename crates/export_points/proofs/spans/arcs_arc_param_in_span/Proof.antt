@@ -1,4 +1,4 @@
--- `export_points::spans::arcs_arc_param_in_span` meets its contract. Assumes nothing.
+-- `export_points::spans::arcs_arc_param_in_span` meets its contract.
 use borrow.Author.Needs.{needs}
 use Rattle.export_points.proofs.spans.arcs_arc_param_in_span.Statement.{statement}
 use Rattle.export_points.proofs.spans.arcs_arc_param_in_span.Tie as tie

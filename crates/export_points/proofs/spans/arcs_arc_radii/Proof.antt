@@ -1,4 +1,4 @@
--- `export_points::spans::arcs_arc_radii` meets its contract. Assumes nothing.
+-- `export_points::spans::arcs_arc_radii` meets its contract.
 use borrow.Author.Needs.{needs}
 use Rattle.export_points.proofs.spans.arcs_arc_radii.Statement.{statement}
 use Rattle.export_points.proofs.spans.arcs_arc_radii.Tie as tie

@@ -1,4 +1,4 @@
--- `export_points::spans::arcs_norm_tau` meets its contract. Assumes nothing.
+-- `export_points::spans::arcs_norm_tau` meets its contract.
 use borrow.Author.Needs.{needs}
 use Rattle.export_points.proofs.spans.arcs_norm_tau.Statement.{statement}
 use Rattle.export_points.proofs.spans.arcs_norm_tau.Tie as tie

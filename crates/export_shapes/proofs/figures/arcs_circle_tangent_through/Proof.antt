@@ -1,4 +1,4 @@
--- `export_shapes::figures::arcs_circle_tangent_through` meets its contract. Assumes nothing.
+-- `export_shapes::figures::arcs_circle_tangent_through` meets its contract.
 use borrow.Author.Needs.{needs}
 use Rattle.export_shapes.proofs.figures.arcs_circle_tangent_through.Statement.{statement}
 use Rattle.export_shapes.proofs.figures.arcs_circle_tangent_through.Tie as tie

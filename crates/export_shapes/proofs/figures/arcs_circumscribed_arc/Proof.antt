@@ -1,4 +1,4 @@
--- `export_shapes::figures::arcs_circumscribed_arc` meets its contract. Assumes nothing.
+-- `export_shapes::figures::arcs_circumscribed_arc` meets its contract.
 use borrow.Author.Needs.{needs}
 use Rattle.export_shapes.proofs.figures.arcs_circumscribed_arc.Statement.{statement}
 use Rattle.export_shapes.proofs.figures.arcs_circumscribed_arc.Tie as tie

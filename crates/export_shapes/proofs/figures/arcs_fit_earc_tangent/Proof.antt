@@ -1,4 +1,4 @@
--- `export_shapes::figures::arcs_fit_earc_tangent` meets its contract. Assumes nothing.
+-- `export_shapes::figures::arcs_fit_earc_tangent` meets its contract.
 use borrow.Author.Needs.{needs}
 use Rattle.export_shapes.proofs.figures.arcs_fit_earc_tangent.Statement.{statement}
 use Rattle.export_shapes.proofs.figures.arcs_fit_earc_tangent.Tie as tie

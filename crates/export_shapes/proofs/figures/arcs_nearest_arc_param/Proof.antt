@@ -1,4 +1,4 @@
--- `export_shapes::figures::arcs_nearest_arc_param` meets its contract. Assumes nothing.
+-- `export_shapes::figures::arcs_nearest_arc_param` meets its contract.
 use borrow.Author.Needs.{needs}
 use Rattle.export_shapes.proofs.figures.arcs_nearest_arc_param.Statement.{statement}
 use Rattle.export_shapes.proofs.figures.arcs_nearest_arc_param.Tie as tie

@@ -1,4 +1,4 @@
--- `export_shapes::figures::arcs_point_to_arc_dist` meets its contract. Assumes nothing.
+-- `export_shapes::figures::arcs_point_to_arc_dist` meets its contract.
 use borrow.Author.Needs.{needs}
 use Rattle.export_shapes.proofs.figures.arcs_point_to_arc_dist.Statement.{statement}
 use Rattle.export_shapes.proofs.figures.arcs_point_to_arc_dist.Tie as tie

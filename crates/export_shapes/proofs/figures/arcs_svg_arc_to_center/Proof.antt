@@ -1,4 +1,4 @@
--- `export_shapes::figures::arcs_svg_arc_to_center` meets its contract. Assumes nothing.
+-- `export_shapes::figures::arcs_svg_arc_to_center` meets its contract.
 use borrow.Author.Needs.{needs}
 use Rattle.export_shapes.proofs.figures.arcs_svg_arc_to_center.Statement.{statement}
 use Rattle.export_shapes.proofs.figures.arcs_svg_arc_to_center.Tie as tie

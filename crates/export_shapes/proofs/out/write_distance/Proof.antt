@@ -1,4 +1,4 @@
--- `export_shapes::out::write_distance` meets its contract. Assumes nothing.
+-- `export_shapes::out::write_distance` meets its contract.
 use mathlib.Core.Path.{ap}
 use Rattle.calls_answers.specs.Shape.{distanceTold}
 use Rattle.export_numbers.proofs.Written.{numbers-out, refused-out}

@@ -1,4 +1,4 @@
--- `export_shapes::out::write_through` meets its contract. Assumes nothing.
+-- `export_shapes::out::write_through` meets its contract.
 use mathlib.Core.Path.{ap}
 use Rattle.calls_answers.specs.Shape.{throughTold}
 use Rattle.export_numbers.proofs.Written.{marked-out, refused-out}

@@ -1,4 +1,4 @@
--- `cells::bracket` is the rule of 01. Assumes nothing.
+-- `cells::bracket` is the rule of 01.
 use Rattle.hunt.specs.Cells.{bracket}
 use Rattle.hunt.proofs.cells.bracket.Statement.{statement}
 use Rattle.hunt.proofs.cells.bracket.Tie as tie

@@ -1,4 +1,4 @@
--- `cells::cells` doubles 256 once for each depth: 256 * 2 ^ counter after `counter` turns. Assumes nothing.
+-- `cells::cells` doubles 256 once for each depth: 256 * 2 ^ counter after `counter` turns.
 use mathlib.Core.Path.{_≡_, refl}
 use Prim.Native.Nat.{_≤_, _-_, _*_, _^_}
 use native.Mathlib.Nat.{pow-suc}

@@ -1,4 +1,4 @@
--- `cells::sample` is the start, or so many steps from it. Assumes nothing.
+-- `cells::sample` is the start, or so many steps from it.
 use mathlib.Core.Path.{sym}
 use native.Mathlib.Omega.{arith}
 use Rattle.laws.proofs.Logic.{cond-above}

@@ -1,4 +1,4 @@
--- `cells::span` is the end less the start. Assumes nothing.
+-- `cells::span` is the end less the start.
 use Rattle.hunt.specs.Cells.{span}
 use Rattle.hunt.proofs.cells.span.Statement.{statement}
 use Rattle.hunt.proofs.cells.span.Tie as tie

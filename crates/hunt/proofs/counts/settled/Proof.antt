@@ -1,4 +1,4 @@
--- `counts::settled` counts one bracket and its fate. Assumes nothing.
+-- `counts::settled` counts one bracket and its fate.
 use lib.ListN.{length-append}
 use borrow.Author.Needs.{needs}
 use Rattle.hunt.proofs.counts.settled.Statement.{statement}

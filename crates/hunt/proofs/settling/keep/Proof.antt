@@ -1,4 +1,4 @@
--- `settling::keep` writes a hit after those in the room. Assumes nothing.
+-- `settling::keep` writes a hit after those in the room.
 use mathlib.Core.Path.{sym}
 use mathlib.Core.List.{[], _∷_}
 use lib.ListN.{length-append}

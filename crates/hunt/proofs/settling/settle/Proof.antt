@@ -1,4 +1,4 @@
--- `settling::settle` finds the fate, writes a hit and counts. Assumes nothing.
+-- `settling::settle` finds the fate, writes a hit and counts.
 use mathlib.Core.Path.{ap, _∙_}
 use mathlib.Core.List.{List}
 use Rattle.hits.specs.declared.CurveHit.{CurveHit}

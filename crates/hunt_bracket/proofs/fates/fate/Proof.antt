@@ -1,4 +1,4 @@
--- `fates::fate` takes the point, its angle on b, and both spans. Assumes nothing.
+-- `fates::fate` takes the point, its angle on b, and both spans.
 use mathlib.Core.Path.{_∙_}
 use Rattle.hunt_bracket.specs.Fate.{fate}
 use borrow.Author.Needs.{needs}

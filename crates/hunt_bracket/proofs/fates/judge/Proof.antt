@@ -1,4 +1,4 @@
--- `fates::judge` tests in the order of 01. Assumes nothing.
+-- `fates::judge` tests in the order of 01.
 use borrow.Author.Needs.{needs}
 use Rattle.hunt_bracket.proofs.fates.judge.Statement.{statement}
 use Rattle.hunt_bracket.proofs.fates.judge.Tie as tie

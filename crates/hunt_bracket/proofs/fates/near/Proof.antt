@@ -1,4 +1,4 @@
--- `fates::near` is 000's test of two angles. Assumes nothing.
+-- `fates::near` is 000's test of two angles.
 use Rattle.hunt_bracket.specs.Fate.{near}
 use borrow.Author.Needs.{needs}
 use Rattle.hunt_bracket.proofs.fates.near.Statement.{statement}

@@ -1,4 +1,4 @@
--- `fates::seen` looks at one hit after the other. The invariant: a hit is near t where one from i on is. Assumes nothing.
+-- `fates::seen` looks at one hit after the other. The invariant: a hit is near t where one from i on is.
 use mathlib.Core.Path.{_≡_, refl, sym, _∙_}
 use mathlib.Core.Bool.{false}
 use Prim.Native.Nat.{_≤_, _-_}

@@ -1,4 +1,4 @@
--- `narrowing::halve` is one halving. Assumes nothing.
+-- `narrowing::halve` is one halving.
 use Rattle.hunt_bracket.specs.Narrow.{halved}
 use borrow.Author.Needs.{needs}
 use Rattle.hunt_bracket.proofs.narrowing.halve.Statement.{statement}

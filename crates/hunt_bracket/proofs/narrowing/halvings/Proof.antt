@@ -1,4 +1,4 @@
--- `narrowing::halvings` halves 60 times. Assumes nothing.
+-- `narrowing::halvings` halves 60 times.
 use mathlib.Core.Path.{_≡_, sym, ap}
 use Prim.Native.Nat.{_≤_, _-_}
 use native.Mathlib.Omega.{arith}

@@ -1,4 +1,4 @@
--- `narrowing::narrow` is the middle after 60 halvings. Assumes nothing.
+-- `narrowing::narrow` is the middle after 60 halvings.
 use Rattle.hunt_bracket.specs.Narrow.{last}
 use borrow.Author.Needs.{needs}
 use Rattle.hunt_bracket.proofs.narrowing.narrow.Statement.{statement}

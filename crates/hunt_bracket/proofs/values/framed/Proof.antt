@@ -1,4 +1,4 @@
--- `values::framed` works out the sines and cosines of both rotations once. Assumes nothing.
+-- `values::framed` works out the sines and cosines of both rotations once.
 use Rattle.hunt_bracket.specs.Frame.{frame}
 use Rattle.hunt_bracket.proofs.Frames.{sin-cos-is}
 use borrow.Author.Needs.{needs}

@@ -1,4 +1,4 @@
--- `values::point` is a's point. Assumes nothing.
+-- `values::point` is a's point.
 use Rattle.hunt_bracket.specs.Frame.{point}
 use borrow.Author.Needs.{needs}
 use Rattle.hunt_bracket.proofs.values.point.Statement.{statement}

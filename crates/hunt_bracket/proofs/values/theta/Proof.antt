@@ -1,4 +1,4 @@
--- `values::theta` is the angle on b. Assumes nothing.
+-- `values::theta` is the angle on b.
 use Rattle.hunt_bracket.specs.Frame.{theta}
 use borrow.Author.Needs.{needs}
 use Rattle.hunt_bracket.proofs.values.theta.Statement.{statement}

@@ -1,4 +1,4 @@
--- `values::unit` is 000's (xl, yl). Assumes nothing.
+-- `values::unit` is 000's (xl, yl).
 use Rattle.hunt_bracket.specs.Frame.{unit}
 use borrow.Author.Needs.{needs}
 use Rattle.hunt_bracket.proofs.values.unit.Statement.{statement}

@@ -1,4 +1,4 @@
--- `values::value` is 000's g. Assumes nothing.
+-- `values::value` is 000's g.
 use Rattle.hunt_bracket.specs.Frame.{value}
 use borrow.Author.Needs.{needs}
 use Rattle.hunt_bracket.proofs.values.value.Statement.{statement}

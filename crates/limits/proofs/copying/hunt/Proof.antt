@@ -1,4 +1,4 @@
--- `copying::hunt` is safe and ends. The invariant: the room keeps its length. Assumes nothing.
+-- `copying::hunt` is safe and ends. The invariant: the room keeps its length.
 use mathlib.Core.Path.{_≡_, refl, _∙_}
 use Prim.Native.Nat.{_≤_, _-_}
 use native.Mathlib.Omega.{arith}

@@ -1,4 +1,4 @@
--- `circle::end_dist` is the nearer end, and the end at a tie. Assumes nothing.
+-- `circle::end_dist` is the nearer end, and the end at a tie.
 use Rattle.nearest.specs.CircleDist.{endDist}
 use borrow.Author.Needs.{needs}
 use Rattle.nearest.proofs.circle.end_dist.Statement.{statement}

@@ -1,4 +1,4 @@
--- `circle::in_range` is 000's test of the range. Assumes nothing.
+-- `circle::in_range` is 000's test of the range.
 use Rattle.nearest.specs.CircleDist.{inRange}
 use borrow.Author.Needs.{needs}
 use Rattle.nearest.proofs.circle.in_range.Statement.{statement}

@@ -1,4 +1,4 @@
--- `circle::on_ray` is the projection onto the circle. Assumes nothing.
+-- `circle::on_ray` is the projection onto the circle.
 use Rattle.nearest.specs.CircleDist.{onRay}
 use borrow.Author.Needs.{needs}
 use Rattle.nearest.proofs.circle.on_ray.Statement.{statement}

@@ -1,4 +1,4 @@
--- `circle::part_dist` is 000's answer for a partial arc. Assumes nothing.
+-- `circle::part_dist` is 000's answer for a partial arc.
 use Rattle.nearest.specs.CircleDist.{partDist}
 use borrow.Author.Needs.{needs}
 use Rattle.nearest.proofs.circle.part_dist.Statement.{statement}

@@ -1,4 +1,4 @@
--- `circle::whole_dist` is 000's answer for a full circle. Assumes nothing.
+-- `circle::whole_dist` is 000's answer for a full circle.
 use Rattle.nearest.specs.CircleDist.{wholeDist}
 use borrow.Author.Needs.{needs}
 use Rattle.nearest.proofs.circle.whole_dist.Statement.{statement}

@@ -1,4 +1,4 @@
--- `distance::point_to_arc_dist` tells ellipse, full circle and partial arc apart. Assumes nothing.
+-- `distance::point_to_arc_dist` tells ellipse, full circle and partial arc apart.
 use Rattle.nearest.specs.ArcDist.{pointToArcDist}
 use borrow.Author.Needs.{needs}
 use Rattle.nearest.proofs.distance.point_to_arc_dist.Statement.{statement}

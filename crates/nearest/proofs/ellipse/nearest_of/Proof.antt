@@ -1,4 +1,4 @@
--- `ellipse::nearest_of` compares the refined point with both ends. Assumes nothing.
+-- `ellipse::nearest_of` compares the refined point with both ends.
 use Rattle.nearest.specs.EllipseDist.{nearestOf}
 use borrow.Author.Needs.{needs}
 use Rattle.nearest.proofs.ellipse.nearest_of.Statement.{statement}

@@ -1,4 +1,4 @@
--- `ellipse::point_to_ellipse_dist` samples, refines and looks at the ends. Assumes nothing.
+-- `ellipse::point_to_ellipse_dist` samples, refines and looks at the ends.
 use Rattle.nearest.specs.EllipseDist.{pointToEllipseDist}
 use borrow.Author.Needs.{needs}
 use Rattle.nearest.proofs.ellipse.point_to_ellipse_dist.Statement.{statement}

@@ -1,4 +1,4 @@
--- `ellipse::span` is once around, or from start to end. Assumes nothing.
+-- `ellipse::span` is once around, or from start to end.
 use Rattle.nearest.specs.EllipseDist.{span}
 use Rattle.nearest.proofs.ellipse.span.Statement.{statement}
 use Rattle.nearest.proofs.ellipse.span.Tie as tie

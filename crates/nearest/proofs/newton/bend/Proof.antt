@@ -1,4 +1,4 @@
--- `newton::bend` is 000's df. Assumes nothing.
+-- `newton::bend` is 000's df.
 use Rattle.nearest.specs.Newton.{bend}
 use borrow.Author.Needs.{needs}
 use Rattle.nearest.proofs.newton.bend.Statement.{statement}

@@ -1,4 +1,4 @@
--- `newton::newton` takes at most 8 steps. The invariant: the steps that are left lead from t to the same angle. Assumes nothing.
+-- `newton::newton` takes at most 8 steps. The invariant: the steps that are left lead from t to the same angle.
 use mathlib.Core.Path.{_≡_, refl, sym, _∙_}
 use Prim.Native.Nat.{suc, _≤_, _+_, _-_}
 use native.Mathlib.Omega.{arith}

@@ -1,4 +1,4 @@
--- `newton::slope` is 000's f. Assumes nothing.
+-- `newton::slope` is 000's f.
 use mathlib.Core.Path.{refl}
 use Rattle.nearest.specs.Newton.{slope}
 use Rattle.nearest.proofs.newton.slope.Statement.{statement}

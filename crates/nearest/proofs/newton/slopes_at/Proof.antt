@@ -1,4 +1,4 @@
--- `newton::slopes_at` takes f and df at one angle. Assumes nothing.
+-- `newton::slopes_at` takes f and df at one angle.
 use Rattle.nearest.specs.Newton.{slopesAt}
 use borrow.Author.Needs.{needs}
 use Rattle.nearest.proofs.newton.slopes_at.Statement.{statement}

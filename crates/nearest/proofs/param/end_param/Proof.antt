@@ -1,4 +1,4 @@
--- `param::end_param` is the nearer end's angle, and the start's at a tie. Assumes nothing.
+-- `param::end_param` is the nearer end's angle, and the start's at a tie.
 use Rattle.nearest.specs.ArcParam.{endParam}
 use borrow.Author.Needs.{needs}
 use Rattle.nearest.proofs.param.end_param.Statement.{statement}

@@ -1,4 +1,4 @@
--- `param::last_angle` is the end, or once around from the start. Assumes nothing.
+-- `param::last_angle` is the end, or once around from the start.
 use Rattle.nearest.specs.ArcParam.{lastAngle}
 use Rattle.nearest.proofs.param.last_angle.Statement.{statement}
 use Rattle.nearest.proofs.param.last_angle.Tie as tie

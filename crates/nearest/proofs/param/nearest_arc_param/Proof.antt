@@ -1,4 +1,4 @@
--- `param::nearest_arc_param` tells a circle from an ellipse. Assumes nothing.
+-- `param::nearest_arc_param` tells a circle from an ellipse.
 use Rattle.nearest.specs.ArcParam.{nearestArcParam}
 use borrow.Author.Needs.{needs}
 use Rattle.nearest.proofs.param.nearest_arc_param.Statement.{statement}

@@ -1,4 +1,4 @@
--- `param::on_circle` is the angle in the span, and else the nearer end's. Assumes nothing.
+-- `param::on_circle` is the angle in the span, and else the nearer end's.
 use Rattle.nearest.specs.ArcParam.{onCircle}
 use borrow.Author.Needs.{needs}
 use Rattle.nearest.proofs.param.on_circle.Statement.{statement}

@@ -1,4 +1,4 @@
--- `param::on_ellipse` samples and shrinks. Assumes nothing.
+-- `param::on_ellipse` samples and shrinks.
 use Rattle.nearest.specs.ArcParam.{onEllipse}
 use borrow.Author.Needs.{needs}
 use Rattle.nearest.proofs.param.on_ellipse.Statement.{statement}

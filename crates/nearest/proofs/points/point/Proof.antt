@@ -1,4 +1,4 @@
--- `points::point` is the arc's point. Assumes nothing.
+-- `points::point` is the arc's point.
 use Rattle.arc.specs.Ellipse.{ellipsePoint}
 use borrow.Author.Needs.{needs}
 use Rattle.nearest.proofs.points.point.Statement.{statement}

@@ -1,4 +1,4 @@
--- `points::squared_dist` is the squared distance. Assumes nothing.
+-- `points::squared_dist` is the squared distance.
 use mathlib.Core.Path.{refl}
 use Rattle.nearest.specs.Squared.{squaredDist}
 use Rattle.nearest.proofs.points.squared_dist.Statement.{statement}

@@ -1,4 +1,4 @@
--- `samples::best_of` looks at one sample after the other. Assumes nothing.
+-- `samples::best_of` looks at one sample after the other.
 use mathlib.Core.Path.{_≡_, refl, ap}
 use Prim.Native.Nat.{_≤_, _+_, _-_}
 use native.Mathlib.Numerals.{add-one}

@@ -1,4 +1,4 @@
--- `samples::closer` keeps the strictly nearer angle. Assumes nothing.
+-- `samples::closer` keeps the strictly nearer angle.
 use Rattle.nearest.specs.Samples.{closer}
 use borrow.Author.Needs.{needs}
 use Rattle.nearest.proofs.samples.closer.Statement.{statement}

@@ -1,4 +1,4 @@
--- `samples::sample` is one sample's angle. Assumes nothing.
+-- `samples::sample` is one sample's angle.
 use mathlib.Core.Path.{refl}
 use Rattle.nearest.specs.Samples.{sample}
 use borrow.Author.Needs.{needs}

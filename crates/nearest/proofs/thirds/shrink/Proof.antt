@@ -1,4 +1,4 @@
--- `thirds::shrink` is one turn. Assumes nothing.
+-- `thirds::shrink` is one turn.
 use Rattle.nearest.specs.Thirds.{shrunk}
 use borrow.Author.Needs.{needs}
 use Rattle.nearest.proofs.thirds.shrink.Statement.{statement}

@@ -1,4 +1,4 @@
--- `thirds::thirds` takes 40 turns. Assumes nothing.
+-- `thirds::thirds` takes 40 turns.
 use mathlib.Core.Path.{_≡_, refl, ap}
 use Prim.Native.Nat.{_≤_, _-_}
 use native.Mathlib.Numerals.{add-one}

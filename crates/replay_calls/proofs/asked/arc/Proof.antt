@@ -1,4 +1,4 @@
--- `asked::arc` meets its contract: it writes to its twelve numbers and to nothing else. Assumes nothing.
+-- `asked::arc` meets its contract: it writes to its twelve numbers and to nothing else.
 use mathlib.Core.Path.{_≡_}
 use Prim.Native.Nat.{_≤_, _-_}
 use native.Mathlib.Omega.{arith}

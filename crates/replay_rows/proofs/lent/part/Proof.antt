@@ -1,4 +1,4 @@
--- `lent::part` lends no more than there is. Assumes nothing.
+-- `lent::part` lends no more than there is.
 use native.Mathlib.Omega.{arith}
 use lib.ListN.{length-take}
 use borrow.Author.Needs.{needs}

@@ -1,4 +1,4 @@
--- `tally::count` meets its contract. Assumes nothing.
+-- `tally::count` meets its contract.
 use borrow.Author.Needs.{needs}
 use borrow.Author.Tests.{lt-ltb, le-ltb}
 use Rattle.replay_rows.proofs.tally.count.Statement.{statement}

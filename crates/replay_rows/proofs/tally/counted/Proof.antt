@@ -1,4 +1,4 @@
--- `tally::counted` meets its contract, case by case. Assumes nothing.
+-- `tally::counted` meets its contract, case by case.
 use mathlib.Core.Path.{refl}
 use borrow.Author.Needs.{needs}
 use Rattle.replay_rows.proofs.tally.counted.Statement.{statement}

@@ -1,4 +1,4 @@
--- `tally::one_more` meets its contract. Assumes nothing.
+-- `tally::one_more` meets its contract.
 use borrow.Author.Needs.{needs}
 use borrow.Author.Tests.{lt-ltb, le-ltb}
 use Rattle.replay_rows.proofs.tally.one_more.Statement.{statement}

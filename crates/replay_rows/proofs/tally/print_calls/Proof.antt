@@ -1,4 +1,4 @@
--- `tally::print_calls` is safe: it reads below index 26. Assumes nothing.
+-- `tally::print_calls` is safe: it reads below index 26.
 use Prim.Native.Nat.{_≤_, _-_}
 use native.Mathlib.Omega.{arith}
 use borrow.Author.Needs.{needs}

@@ -1,4 +1,4 @@
--- `words::agrees` meets its contract: both the refusal and the words are the row's. Assumes nothing.
+-- `words::agrees` meets its contract: both the refusal and the words are the row's.
 use mathlib.Core.Path.{refl}
 use mathlib.Core.Bool.{false≢true}
 use native.Mathlib.Omega.{arith}

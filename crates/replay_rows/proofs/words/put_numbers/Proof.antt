@@ -1,4 +1,4 @@
--- `words::put_numbers` ends: it puts each number once. Assumes nothing.
+-- `words::put_numbers` ends: it puts each number once.
 use Prim.Native.Nat.{_≤_, _-_}
 use native.Mathlib.Omega.{arith}
 use borrow.Author.Needs.{needs}

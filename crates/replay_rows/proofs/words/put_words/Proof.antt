@@ -1,4 +1,4 @@
--- `words::put_words` is safe: it reads below index `n`. Assumes nothing.
+-- `words::put_words` is safe: it reads below index `n`.
 use Prim.Native.Nat.{_≤_, _-_}
 use native.Mathlib.Omega.{arith}
 use borrow.Author.Needs.{needs}

@@ -1,4 +1,4 @@
--- `words::same` meets its contract: at the first difference they do not agree, and past the last word they do. Assumes nothing.
+-- `words::same` meets its contract: at the first difference they do not agree, and past the last word they do.
 use mathlib.Core.Path.{_≡_, refl}
 use mathlib.Core.Bool.{false≢true}
 use Prim.Native.Nat.{ℕ, _≤_, _<_, _-_}

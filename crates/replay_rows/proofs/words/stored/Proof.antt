@@ -1,4 +1,4 @@
--- `words::stored` meets its contract. Assumes nothing.
+-- `words::stored` meets its contract.
 use borrow.Author.Needs.{needs}
 use borrow.Author.Tests.{lt-ltb, le-ltb}
 use Rattle.replay_rows.proofs.words.stored.Statement.{statement}

@@ -1,4 +1,4 @@
--- `root::newton::digits` meets its contract: a number above zero is not a NaN. Assumes nothing.
+-- `root::newton::digits` meets its contract: a number above zero is not a NaN.
 use borrow.Author.Needs.{needs}
 use Rattle.laws.proofs.Positive.{above-real}
 use Rattle.root.proofs.newton.digits.Statement.{statement}

@@ -1,4 +1,4 @@
--- `root::newton::guess` meets its contract: the first guess's pattern is that of a finite number. Assumes nothing.
+-- `root::newton::guess` meets its contract: the first guess's pattern is that of a finite number.
 use native.Mathlib.Omega.{arith}
 use borrow.Author.Needs.{needs}
 use Rattle.laws.proofs.Pattern.{finite-pattern}

@@ -1,4 +1,4 @@
--- `root::whole::by_digits` meets its contract, by the laws of `Turns`. Assumes nothing.
+-- `root::whole::by_digits` meets its contract, by the laws of `Turns`.
 use Prim.Native.Nat.{_-_, _≤_}
 use native.Mathlib.Omega.{arith}
 use native.Mathlib.Numerals.{add-one}

@@ -1,4 +1,4 @@
--- `sine::angle::angle` meets its contract: each way gives the whole part of the remainder's size. Assumes nothing.
+-- `sine::angle::angle` meets its contract: each way gives the whole part of the remainder's size.
 use mathlib.Core.Path.{_≡_, refl, sym, _∙_, subst}
 use mathlib.Core.Bool.{true}
 use Prim.Native.Nat.{ℕ, _*_, _≤_, _<_, _^_}

@@ -1,4 +1,4 @@
--- `sine::angle::moved` meets its contract: no digit is lost at the top. Assumes nothing.
+-- `sine::angle::moved` meets its contract: no digit is lost at the top.
 use mathlib.Core.Path.{_≡_}
 use Prim.Native.Nat.{ℕ, _+_, _-_, _*_, _%_, _<_, _^_}
 use native.Mathlib.Nat.{mod-eq-of-lt, lt-of-lt-of-le}

@@ -1,4 +1,4 @@
--- `sine::angle::split` meets its contract. Assumes nothing.
+-- `sine::angle::split` meets its contract.
 use mathlib.Core.Path.{_≡_, refl}
 use Prim.Native.Nat.{_≤_, _^_}
 use native.Mathlib.Omega.{arith}

@@ -1,4 +1,4 @@
--- `sine::steps::apart` meets its contract. Assumes nothing.
+-- `sine::steps::apart` meets its contract.
 use mathlib.Core.Path.{refl}
 use native.Mathlib.Omega.{arith}
 use borrow.Author.Needs.{needs}

@@ -1,4 +1,4 @@
--- `sine::steps::bend` meets its contract. Assumes nothing.
+-- `sine::steps::bend` meets its contract.
 use mathlib.Core.Path.{refl}
 use Prim.Native.Nat.{ℕ, suc, _-_, _*_, _/_, _≤_, _<_, _^_}
 use native.Mathlib.Nat.{mul-le-mul, mul-le-mul-right, suc-mul, div-lt-iff-lt-mul}

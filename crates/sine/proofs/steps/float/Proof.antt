@@ -1,4 +1,4 @@
--- `sine::steps::float` meets its contract: the difference fits a signed number, and it is a float exactly. Assumes nothing.
+-- `sine::steps::float` meets its contract: the difference fits a signed number, and it is a float exactly.
 use mathlib.Core.Path.{_≡_, refl, sym, _∙_, ap, subst}
 use mathlib.Core.Bool.{Bool, true, false, cond}
 use Prim.Native.Nat.{ℕ, suc, _-_, _*_, _≤_, _^_}

@@ -1,4 +1,4 @@
--- `sine::steps::lack` meets its contract. Assumes nothing.
+-- `sine::steps::lack` meets its contract.
 use Prim.Native.Nat.{_≤_, _^_, _/_}
 use native.Mathlib.Omega.{arith}
 use borrow.Author.Needs.{needs}

@@ -1,4 +1,4 @@
--- `sine::steps::ranged` meets its contract. Assumes nothing.
+-- `sine::steps::ranged` meets its contract.
 use mathlib.Core.Path.{refl}
 use Prim.Native.Nat.{_^_}
 use native.Mathlib.Omega.{arith}

@@ -1,4 +1,4 @@
--- `sine::steps::rounded` meets its contract. Assumes nothing.
+-- `sine::steps::rounded` meets its contract.
 use mathlib.Core.Path.{refl}
 use borrow.Author.Needs.{needs}
 use Rattle.sine.specs.Rule.{rounded}

@@ -1,4 +1,4 @@
--- `sine::steps::turned` meets its contract. Assumes nothing.
+-- `sine::steps::turned` meets its contract.
 use mathlib.Core.Path.{refl}
 use borrow.Author.Needs.{needs}
 use Rattle.sine.specs.Rule.{turned}
