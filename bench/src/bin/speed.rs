@@ -1,5 +1,5 @@
 //! Every public call against the original as it stands, on the same drawings, in one run. `bench/run speed [SEED]`
-//! The calls go through the crate in rust/, as a drafting program's do. A bar is the ratio asked for.
+//! The calls go through the crate in rust/, as a drafting program's do. A bar is the ratio that this project set itself: docs/SPEED.md.
 use arcs::{checked, geometry, vect2d, Arc, Param};
 use bench::{compare, original, report, seed, Random};
 use std::f64::consts::PI;
