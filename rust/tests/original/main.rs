@@ -4,7 +4,10 @@
 extern crate self as arael;
 extern crate self as arael_sketch_solver;
 
+mod crossings;
 mod drawing;
+mod hunt;
+mod limits;
 mod own;
 mod routines;
 mod spans;
