@@ -48,8 +48,8 @@
 //!
 //! **Floating point as IEEE 754 has it by default**: rounding to nearest, with subnormal numbers. The library is proved for
 //! that. In a process that sets another rounding direction or flushes subnormal numbers to zero (a C program linked with
-//! `-ffast-math` does that for the whole process) the bits differ: `sqrt(f64::from_bits(0x0008_0000_0000_0000))` is then
-//! plainly wrong.
+//! `-ffast-math` does that for the whole process) the bits differ: `sqrt(f64::from_bits(0x0008_0000_0000_0000))` then gives
+//! back the number itself.
 //!
 //! **Nothing of its threads.** The library has no state and keeps no pointer: every call may be made from any thread, and
 //! from many at once.

@@ -142,7 +142,7 @@ pub fn ways(d: &Drawing) -> Vec<Vec<f64>> {
     let (p, t) = (place(d.places[0]), d.t);
     let (mut a, mut b) = (arc(&d.a), arc(&d.b));
     let (boxed, counted, cell) = (Box::new(arc(&d.a)), std::rc::Rc::new(arc(&d.b)), std::cell::RefCell::new(arc(&d.b)));
-    let listed = vec![arc(&d.a), arc(&d.b)];
+    let listed = [arc(&d.a), arc(&d.b)];
     vec![
         calls_with!(&a, &b, p, t),
         calls_with!(&&a, &&&b, p, t),

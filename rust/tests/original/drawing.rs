@@ -47,25 +47,25 @@ impl Random {
         self.bits() >> 63 == 1
     }
 
-    pub fn from_to(&mut self, low: f64, high: f64) -> f64 {
+    pub fn between(&mut self, low: f64, high: f64) -> f64 {
         low + (high - low) * ((self.bits() >> 11) as f64 / (1u64 << 53) as f64)
     }
 
     fn place(&mut self, size: f64) -> [f64; 2] {
-        [self.from_to(-size, size), self.from_to(-size, size)]
+        [self.between(-size, size), self.between(-size, size)]
     }
 
     /// The end is after the start in the arc's direction, or beyond it the wrong way, which no angle then lies in.
     fn drawn(&mut self) -> Drawn {
-        let start = self.from_to(-3.0, 3.0);
-        let span = self.from_to(1.0, 6.0);
+        let start = self.between(-3.0, 3.0);
+        let span = self.between(1.0, 6.0);
         let ccw = self.mark();
         let forward = ccw != (self.bits() % 8 == 0);
         Drawn {
             center: self.place(6.0),
-            radius: self.from_to(4.0, 12.0),
-            radius_b: self.from_to(4.0, 12.0),
-            rotation: self.from_to(-3.0, 3.0),
+            radius: self.between(4.0, 12.0),
+            radius_b: self.between(4.0, 12.0),
+            rotation: self.between(-3.0, 3.0),
             start,
             end: if forward { start + span } else { start - span },
             closed: self.mark(),
@@ -76,9 +76,9 @@ impl Random {
 
     /// Up the normal of the arc's curve.
     fn far_from(&mut self, a: &Drawn) -> [f64; 2] {
-        let (sin, cos) = (a.start + self.from_to(0.5, 5.5)).sin_cos();
+        let (sin, cos) = (a.start + self.between(0.5, 5.5)).sin_cos();
         let (sin_r, cos_r) = a.rotation.sin_cos();
-        let up = self.from_to(2.0, 4.0);
+        let up = self.between(2.0, 4.0);
         let (x, y) = (a.radius * cos + up * a.radius_b * cos, a.radius_b * sin + up * a.radius * sin);
         [a.center[0] + x * cos_r - y * sin_r, a.center[1] + x * sin_r + y * cos_r]
     }
@@ -91,11 +91,11 @@ impl Random {
             places: [0; 4].map(|_| self.place(15.0)),
             directions: [0; 2].map(|_| self.place(2.0)),
             b: self.drawn(),
-            rx: self.from_to(4.0, 12.0),
-            ry: self.from_to(4.0, 12.0),
-            rotation: self.from_to(-3.0, 3.0),
-            t: self.from_to(-4.0, 4.0),
-            bulge: self.from_to(-1.5, 1.5),
+            rx: self.between(4.0, 12.0),
+            ry: self.between(4.0, 12.0),
+            rotation: self.between(-3.0, 3.0),
+            t: self.between(-4.0, 4.0),
+            bulge: self.between(-1.5, 1.5),
             large_arc: self.mark(),
             sweep: self.mark(),
         }

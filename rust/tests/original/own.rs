@@ -87,8 +87,10 @@ impl ArcMethods for Named {}
 fn a_programs_own_methods_come_first() {
     let mut named = Named(2.0);
     assert_eq!(named.start_pos(), "its own");
-    assert_eq!((&named).start_pos(), "its own");
-    assert_eq!((&mut named).start_pos(), "its own");
+    let shared = &named;
+    assert_eq!(shared.start_pos(), "its own");
+    let unique = &mut named;
+    assert_eq!(unique.start_pos(), "its own");
     assert_eq!(std::rc::Rc::new(Named(3.0)).start_pos(), "its own");
     let boxed = Box::new(named);
     assert_eq!(boxed.start_pos(), "its own");
