@@ -39,6 +39,7 @@ use core::ops::Deref;
 )]
 pub trait AsArc {
     /// The arc that it stands for.
+    #[must_use]
     fn as_arc(&self) -> Arc;
 }
 

@@ -101,3 +101,13 @@ fn an_arc_given_in_every_way() {
         assert!(original::handed_on(&d) && swapped::handed_on(&d) && own_arc::handed_on(&d), "{d:?}");
     }
 }
+
+#[test]
+fn from_many_threads_at_once() {
+    let alone: Vec<_> = drawings().take(100).map(|d| bits(&swapped::answers(&d))).collect();
+    std::thread::scope(|scope| {
+        for _ in 0..4 {
+            scope.spawn(|| assert!(drawings().zip(&alone).all(|(d, expected)| bits(&swapped::answers(&d)) == *expected)));
+        }
+    });
+}
