@@ -307,8 +307,9 @@ pub fn intersect_arcs(a: &(impl AsArc + ?Sized), b: &(impl AsArc + ?Sized)) -> R
 /// # Ok::<(), arcs::Refusal>(())
 /// ```
 pub fn intersect_arcs_at(a: &(impl AsArc + ?Sized), b: &(impl AsArc + ?Sized), depth: u32) -> Result<Crossings, Refusal> {
-    let mut room = vec![0.0; room_for_arcs(a, b, depth)];
-    intersect_arcs_in(a, b, depth, &mut room).map(|counts| Crossings { hits: hits(&room, counts.hits), counts })
+    let (a, b) = (a.as_arc(), b.as_arc());
+    let mut room = vec![0.0; room_for_arcs(&a, &b, depth)];
+    intersect_arcs_in(&a, &b, depth, &mut room).map(|counts| Crossings { hits: hits(&room, counts.hits), counts })
 }
 
 /// The crossings of two arcs, to a room of at least [`room_for_arcs`] numbers.
