@@ -6,7 +6,7 @@ use crate::text::Arc;
 use arcs::{checked, vect2d, Counts, Curve, CurveHit, Param};
 use std::f64::consts::TAU;
 
-pub fn arc(d: &Drawn) -> arcs::Arc {
+fn arc(d: &Drawn) -> arcs::Arc {
     arcs::Arc {
         center: Param::new(vect2d::new(d.center[0], d.center[1])),
         radius: Param::new(d.radius),
