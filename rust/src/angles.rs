@@ -3,6 +3,7 @@ use crate::ffi;
 
 /// The square root, rounded to nearest: the IEEE 754 value.
 #[inline]
+#[must_use]
 pub fn sqrt(x: f64) -> f64 {
     // SAFETY: takes and gives numbers alone.
     unsafe { ffi::arcs_sqrt(x) }
@@ -10,6 +11,7 @@ pub fn sqrt(x: f64) -> f64 {
 
 /// The sine of `x % TAU`, within 2^-44.
 #[inline]
+#[must_use]
 pub fn sin(x: f64) -> f64 {
     // SAFETY: takes and gives numbers alone.
     unsafe { ffi::arcs_sin(x) }
@@ -17,6 +19,7 @@ pub fn sin(x: f64) -> f64 {
 
 /// The cosine of `x % TAU`, within 2^-44.
 #[inline]
+#[must_use]
 pub fn cos(x: f64) -> f64 {
     // SAFETY: takes and gives numbers alone.
     unsafe { ffi::arcs_cos(x) }
@@ -24,6 +27,7 @@ pub fn cos(x: f64) -> f64 {
 
 /// Sine and cosine, for little more than the price of one.
 #[inline]
+#[must_use]
 pub fn sin_cos(x: f64) -> (f64, f64) {
     let mut out = [0.0; 2];
     // SAFETY: the pointer and the length are those of `out`.
@@ -33,6 +37,7 @@ pub fn sin_cos(x: f64) -> (f64, f64) {
 
 /// The angle of the point (x, y), within 2^-44; signs, zeros and infinities as in C's Annex F.
 #[inline]
+#[must_use]
 pub fn atan2(y: f64, x: f64) -> f64 {
     // SAFETY: takes and gives numbers alone.
     unsafe { ffi::arcs_atan2(y, x) }
@@ -40,6 +45,7 @@ pub fn atan2(y: f64, x: f64) -> f64 {
 
 /// The arccosine: the arctangent of the root of (1-c)(1+c) and c.
 #[inline]
+#[must_use]
 pub fn acos(c: f64) -> f64 {
     // SAFETY: takes and gives numbers alone.
     unsafe { ffi::arcs_acos(c) }

@@ -10,8 +10,11 @@
 //! assert_eq!(checked::nearest_arc_param(&circle, vect2d::new(3.0, 0.0)), Ok(0.0));
 //! assert_eq!(checked::nearest_arc_param(&circle, vect2d::new(2e6, 0.0)), Err(Refusal::BeyondLimit));
 //! ```
+use crate::as_arc::AsArc;
 use crate::ffi;
-use crate::types::{vect2d, Arc, Counts, Crossings, Curve, CurveHit, Refusal};
+use crate::refusal::Refusal;
+use crate::types::{vect2d, Counts, Crossings, Curve, CurveHit};
+use alloc::{vec, vec::Vec};
 
 /// The numbers of a hit: t_a, t_b, x, y.
 const HIT: usize = 4;
@@ -29,6 +32,13 @@ fn given<const N: usize>(call: impl FnOnce(*mut f64, usize) -> u32) -> Result<[f
     let mut out = [0.0; N];
     let refusal = call(out.as_mut_ptr(), N);
     result(refusal, out)
+}
+
+/// The seven numbers of an arc and its marks.
+#[inline]
+fn arc(a: &(impl AsArc + ?Sized)) -> ([f64; 7], u32) {
+    let a = a.as_arc();
+    (a.numbers(), a.marks())
 }
 
 #[inline]
@@ -57,34 +67,34 @@ pub fn ellipse_tangent(rx: f64, ry: f64, rot: f64, t: f64) -> Result<vect2d, Ref
 
 /// The point of the arc at the parametric angle `t`.
 #[inline]
-pub fn arc_point_at(a: &Arc, t: f64) -> Result<vect2d, Refusal> {
-    let n = a.numbers();
+pub fn arc_point_at(a: &(impl AsArc + ?Sized), t: f64) -> Result<vect2d, Refusal> {
+    let (n, marks) = arc(a);
     // SAFETY: `given` lends a pointer and its length; the other pointer is that of `n`.
-    given(|out, len| unsafe { ffi::arcs_arc_point_at(n.as_ptr(), n.len(), a.marks(), t, out, len) }).map(pair)
+    given(|out, len| unsafe { ffi::arcs_arc_point_at(n.as_ptr(), n.len(), marks, t, out, len) }).map(pair)
 }
 
 /// The direction of the arc at the parametric angle `t`: the derivative of [`arc_point_at`].
 #[inline]
-pub fn arc_tangent_at(a: &Arc, t: f64) -> Result<vect2d, Refusal> {
-    let n = a.numbers();
+pub fn arc_tangent_at(a: &(impl AsArc + ?Sized), t: f64) -> Result<vect2d, Refusal> {
+    let (n, marks) = arc(a);
     // SAFETY: as in `arc_point_at`.
-    given(|out, len| unsafe { ffi::arcs_arc_tangent_at(n.as_ptr(), n.len(), a.marks(), t, out, len) }).map(pair)
+    given(|out, len| unsafe { ffi::arcs_arc_tangent_at(n.as_ptr(), n.len(), marks, t, out, len) }).map(pair)
 }
 
 /// The point at the start angle.
 #[inline]
-pub fn arc_start_pos(a: &Arc) -> Result<vect2d, Refusal> {
-    let n = a.numbers();
+pub fn arc_start_pos(a: &(impl AsArc + ?Sized)) -> Result<vect2d, Refusal> {
+    let (n, marks) = arc(a);
     // SAFETY: as in `arc_point_at`.
-    given(|out, len| unsafe { ffi::arcs_arc_start_pos(n.as_ptr(), n.len(), a.marks(), out, len) }).map(pair)
+    given(|out, len| unsafe { ffi::arcs_arc_start_pos(n.as_ptr(), n.len(), marks, out, len) }).map(pair)
 }
 
 /// The point at the end angle.
 #[inline]
-pub fn arc_end_pos(a: &Arc) -> Result<vect2d, Refusal> {
-    let n = a.numbers();
+pub fn arc_end_pos(a: &(impl AsArc + ?Sized)) -> Result<vect2d, Refusal> {
+    let (n, marks) = arc(a);
     // SAFETY: as in `arc_point_at`.
-    given(|out, len| unsafe { ffi::arcs_arc_end_pos(n.as_ptr(), n.len(), a.marks(), out, len) }).map(pair)
+    given(|out, len| unsafe { ffi::arcs_arc_end_pos(n.as_ptr(), n.len(), marks, out, len) }).map(pair)
 }
 
 /// `v % TAU`, plus TAU where that is below 0. A tiny negative angle gives TAU itself.
@@ -104,35 +114,35 @@ pub fn norm_tau(v: f64) -> Result<f64, Refusal> {
 /// assert_eq!(checked::arc_param_in_span(&half, 4.0), Err(Refusal::OutsideSpan));
 /// ```
 #[inline]
-pub fn arc_param_in_span(a: &Arc, theta: f64) -> Result<f64, Refusal> {
-    let n = a.numbers();
+pub fn arc_param_in_span(a: &(impl AsArc + ?Sized), theta: f64) -> Result<f64, Refusal> {
+    let (n, marks) = arc(a);
     // SAFETY: as in `arc_point_at`.
-    given(|out, len| unsafe { ffi::arcs_arc_param_in_span(n.as_ptr(), n.len(), a.marks(), theta, out, len) }).map(number)
+    given(|out, len| unsafe { ffi::arcs_arc_param_in_span(n.as_ptr(), n.len(), marks, theta, out, len) }).map(number)
 }
 
 /// The radii that the crossings use: a circle's `radius` stands for both.
 #[inline]
-pub fn arc_radii(a: &Arc) -> Result<(f64, f64), Refusal> {
-    let n = a.numbers();
+pub fn arc_radii(a: &(impl AsArc + ?Sized)) -> Result<(f64, f64), Refusal> {
+    let (n, marks) = arc(a);
     // SAFETY: as in `arc_point_at`.
-    given(|out, len| unsafe { ffi::arcs_arc_radii(n.as_ptr(), n.len(), a.marks(), out, len) }).map(|[ra, rb]| (ra, rb))
+    given(|out, len| unsafe { ffi::arcs_arc_radii(n.as_ptr(), n.len(), marks, out, len) }).map(|[ra, rb]| (ra, rb))
 }
 
 /// The parametric angle of a position on the curve or near it, by the radii of [`arc_radii`]. The NaN 7ff8000000000000 where
 /// such a radius is 0 and so is that local coordinate.
 #[inline]
-pub fn arc_theta_of_pos(a: &Arc, p: vect2d) -> Result<f64, Refusal> {
-    let n = a.numbers();
+pub fn arc_theta_of_pos(a: &(impl AsArc + ?Sized), p: vect2d) -> Result<f64, Refusal> {
+    let (n, marks) = arc(a);
     // SAFETY: as in `arc_point_at`.
-    given(|out, len| unsafe { ffi::arcs_arc_theta_of_pos(n.as_ptr(), n.len(), a.marks(), p.x, p.y, out, len) }).map(number)
+    given(|out, len| unsafe { ffi::arcs_arc_theta_of_pos(n.as_ptr(), n.len(), marks, p.x, p.y, out, len) }).map(number)
 }
 
 /// The parametric angle of the direction from the centre to `p`. For a point of the curve this is its parameter.
 #[inline]
-pub fn arc_param_at_point(a: &Arc, p: vect2d) -> Result<f64, Refusal> {
-    let n = a.numbers();
+pub fn arc_param_at_point(a: &(impl AsArc + ?Sized), p: vect2d) -> Result<f64, Refusal> {
+    let (n, marks) = arc(a);
     // SAFETY: as in `arc_point_at`.
-    given(|out, len| unsafe { ffi::arcs_arc_param_at_point(n.as_ptr(), n.len(), a.marks(), p.x, p.y, out, len) }).map(number)
+    given(|out, len| unsafe { ffi::arcs_arc_param_at_point(n.as_ptr(), n.len(), marks, p.x, p.y, out, len) }).map(number)
 }
 
 /// The distance from `p` to the segment from `a` to `b`.
@@ -158,19 +168,19 @@ pub fn line_line_intersection(p1: vect2d, p2: vect2d, p3: vect2d, p4: vect2d) ->
 
 /// The distance from `p` to the arc, and the point of the arc that has it.
 #[inline]
-pub fn point_to_arc_dist(p: vect2d, a: &Arc) -> Result<(f64, vect2d), Refusal> {
-    let n = a.numbers();
+pub fn point_to_arc_dist(p: vect2d, a: &(impl AsArc + ?Sized)) -> Result<(f64, vect2d), Refusal> {
+    let (n, marks) = arc(a);
     // SAFETY: as in `arc_point_at`.
-    given(|out, len| unsafe { ffi::arcs_point_to_arc_dist(p.x, p.y, n.as_ptr(), n.len(), a.marks(), out, len) })
+    given(|out, len| unsafe { ffi::arcs_point_to_arc_dist(p.x, p.y, n.as_ptr(), n.len(), marks, out, len) })
         .map(|[d, x, y]| (d, vect2d::new(x, y)))
 }
 
 /// The parameter of the arc's point nearest to `p`.
 #[inline]
-pub fn nearest_arc_param(a: &Arc, p: vect2d) -> Result<f64, Refusal> {
-    let n = a.numbers();
+pub fn nearest_arc_param(a: &(impl AsArc + ?Sized), p: vect2d) -> Result<f64, Refusal> {
+    let (n, marks) = arc(a);
     // SAFETY: as in `arc_point_at`.
-    given(|out, len| unsafe { ffi::arcs_nearest_arc_param(n.as_ptr(), n.len(), a.marks(), p.x, p.y, out, len) }).map(number)
+    given(|out, len| unsafe { ffi::arcs_nearest_arc_param(n.as_ptr(), n.len(), marks, p.x, p.y, out, len) }).map(number)
 }
 
 /// An SVG arc about its centre: centre, start angle, end angle, rx, ry. The radii grow where they are too short.
@@ -213,6 +223,7 @@ pub fn circle_tangent_through(s: vect2d, e: vect2d, t: vect2d) -> Result<(vect2d
 /// end angle, whether counter-clockwise. The ellipse also passes `bulge` half chords from the middle of the chord, at a right
 /// angle to it; a positive bulge is on the side on which the normals at p1 and p2 meet.
 #[inline]
+#[allow(clippy::type_complexity)] // the tuple is the original's
 pub fn fit_earc_tangent(
     p1: vect2d, t1: vect2d, p2: vect2d, t2: vect2d, bulge: f64,
 ) -> Result<(vect2d, f64, f64, f64, f64, f64, bool), Refusal> {
@@ -251,7 +262,7 @@ pub fn intersect_segments_in(a1: vect2d, a2: vect2d, b1: vect2d, b2: vect2d, roo
 }
 
 /// The crossings of a segment with an arc, at most 2, the smaller parameter of the segment first.
-pub fn intersect_segment_arc(p1: vect2d, p2: vect2d, a: &Arc) -> Result<Vec<CurveHit>, Refusal> {
+pub fn intersect_segment_arc(p1: vect2d, p2: vect2d, a: &(impl AsArc + ?Sized)) -> Result<Vec<CurveHit>, Refusal> {
     let mut room = [0.0; 2 * HIT];
     let count = intersect_segment_arc_in(p1, p2, a, &mut room)?;
     Ok(hits(&room, count))
@@ -259,27 +270,28 @@ pub fn intersect_segment_arc(p1: vect2d, p2: vect2d, a: &Arc) -> Result<Vec<Curv
 
 /// The crossings of a segment with an arc, to a room of at least 8 numbers; how many there are.
 #[inline]
-pub fn intersect_segment_arc_in(p1: vect2d, p2: vect2d, a: &Arc, room: &mut [f64]) -> Result<usize, Refusal> {
-    let n = a.numbers();
+pub fn intersect_segment_arc_in(p1: vect2d, p2: vect2d, a: &(impl AsArc + ?Sized), room: &mut [f64]) -> Result<usize, Refusal> {
+    let (n, marks) = arc(a);
     let mut count = 0;
     // SAFETY: the pointers and lengths are those of `n`, of `room` and of one number.
     let refusal = unsafe {
         ffi::arcs_intersect_segment_arc(
-            p1.x, p1.y, p2.x, p2.y, n.as_ptr(), n.len(), a.marks(), room.as_mut_ptr(), room.len(), &mut count, 1,
+            p1.x, p1.y, p2.x, p2.y, n.as_ptr(), n.len(), marks, room.as_mut_ptr(), room.len(), &mut count, 1,
         )
     };
     result(refusal, count as usize)
 }
 
 /// The crossings of two arcs. Two circles are solved; where an ellipse takes part, `a` is searched in 256 cells.
-pub fn intersect_arcs(a: &Arc, b: &Arc) -> Result<Vec<CurveHit>, Refusal> {
+pub fn intersect_arcs(a: &(impl AsArc + ?Sized), b: &(impl AsArc + ?Sized)) -> Result<Vec<CurveHit>, Refusal> {
+    let (a, b) = (a.as_arc(), b.as_arc());
     if a.is_ellipse || b.is_ellipse {
         // The need of depth 0, without a heap.
         let mut room = [0.0; 256 * HIT];
-        return intersect_arcs_in(a, b, 0, &mut room).map(|c| hits(&room, c.hits));
+        return intersect_arcs_in(&a, &b, 0, &mut room).map(|c| hits(&room, c.hits));
     }
     let mut room = [0.0; 2 * HIT];
-    intersect_arcs_in(a, b, 0, &mut room).map(|c| hits(&room, c.hits))
+    intersect_arcs_in(&a, &b, 0, &mut room).map(|c| hits(&room, c.hits))
 }
 
 /// The crossings of two arcs, with `a` searched in 256 times 2^depth cells where an ellipse takes part. A greater depth
@@ -294,29 +306,31 @@ pub fn intersect_arcs(a: &Arc, b: &Arc) -> Result<Vec<CurveHit>, Refusal> {
 /// assert_eq!(checked::intersect_arcs_at(&flange, &hole, 1)?.hits.len(), 2);
 /// # Ok::<(), arcs::Refusal>(())
 /// ```
-pub fn intersect_arcs_at(a: &Arc, b: &Arc, depth: u32) -> Result<Crossings, Refusal> {
-    let mut room = vec![0.0; room_for_arcs(a, b, depth)];
-    intersect_arcs_in(a, b, depth, &mut room).map(|counts| Crossings { hits: hits(&room, counts.hits), counts })
+pub fn intersect_arcs_at(a: &(impl AsArc + ?Sized), b: &(impl AsArc + ?Sized), depth: u32) -> Result<Crossings, Refusal> {
+    let (a, b) = (a.as_arc(), b.as_arc());
+    let mut room = vec![0.0; room_for_arcs(&a, &b, depth)];
+    intersect_arcs_in(&a, &b, depth, &mut room).map(|counts| Crossings { hits: hits(&room, counts.hits), counts })
 }
 
 /// The crossings of two arcs, to a room of at least [`room_for_arcs`] numbers.
 #[inline]
-pub fn intersect_arcs_in(a: &Arc, b: &Arc, depth: u32, room: &mut [f64]) -> Result<Counts, Refusal> {
-    let (m, n) = (a.numbers(), b.numbers());
+pub fn intersect_arcs_in(a: &(impl AsArc + ?Sized), b: &(impl AsArc + ?Sized), depth: u32, room: &mut [f64]) -> Result<Counts, Refusal> {
+    let ((m, a_marks), (n, b_marks)) = (arc(a), arc(b));
     counted(|counts, len| {
         // SAFETY: `counted` lends a pointer and its length; the others are those of `m`, `n` and `room`.
         unsafe {
             ffi::arcs_intersect_arcs(
-                m.as_ptr(), m.len(), a.marks(), n.as_ptr(), n.len(), b.marks(), depth, room.as_mut_ptr(), room.len(), counts, len,
+                m.as_ptr(), m.len(), a_marks, n.as_ptr(), n.len(), b_marks, depth, room.as_mut_ptr(), room.len(), counts, len,
             )
         }
     })
 }
 
 /// The numbers that a room for the hits of two arcs must have.
-pub fn room_for_arcs(a: &Arc, b: &Arc, depth: u32) -> usize {
+#[must_use]
+pub fn room_for_arcs(a: &(impl AsArc + ?Sized), b: &(impl AsArc + ?Sized), depth: u32) -> usize {
     // A depth above 3 is refused before the room is looked at.
-    if a.is_ellipse || b.is_ellipse { (256 * HIT) << depth.min(3) } else { 2 * HIT }
+    if a.as_arc().is_ellipse || b.as_arc().is_ellipse { (256 * HIT) << depth.min(3) } else { 2 * HIT }
 }
 
 /// The crossings of two curves of either kind. The depth is tested for every pair.
@@ -348,6 +362,7 @@ pub fn intersect_in(a: &Curve, b: &Curve, depth: u32, room: &mut [f64]) -> Resul
 }
 
 /// The numbers that a room for the hits of two curves must have.
+#[must_use]
 pub fn room_for(a: &Curve, b: &Curve, depth: u32) -> usize {
     match (a, b) {
         (Curve::Arc(a), Curve::Arc(b)) => room_for_arcs(a, b, depth),
@@ -374,6 +389,7 @@ fn counted(call: impl FnOnce(*mut u64, usize) -> u32) -> Result<Counts, Refusal>
 
 /// The hit `i` (the first is 0) of `count` hits in a room that a call has written. None for an index not below the count, or
 /// where its four numbers do not all fit in the room.
+#[must_use]
 pub fn hit(room: &[f64], count: usize, i: usize) -> Option<CurveHit> {
     let (mut out, mut len) = ([0.0; HIT], 0);
     // SAFETY: the pointers and lengths are those of `room`, of `out` and of one number.

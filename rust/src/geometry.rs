@@ -3,9 +3,31 @@
 //! # Panics
 //!
 //! These signatures have no room for a refusal. A call with a NaN or an infinity, or with a number beyond its limit
-//! (1,048,576; an angle 1,024), panics with the refusal in words. [`crate::checked`] has the same calls with a `Result`.
+//! (1,048,576; an angle 1,024), panics with the refusal in words. Such a number may also be one that another call gave: three
+//! points nearly on a line lie on a circle beyond the limit. [`crate::checked`] has the same calls with a `Result`.
+//!
+//! ```
+//! use arcs::{checked, geometry, vect2d, Arc, Refusal};
+//!
+//! let [p1, p2, p3] = [(0.0, 0.0), (100.0, 0.0), (50.0, 0.001)].map(|(x, y)| vect2d::new(x, y));
+//! let (center, radius, ..) = geometry::circumscribed_arc(p1, p2, p3).unwrap();
+//! assert!((radius - 1250000.0005).abs() < 1e-6);
+//! // `geometry::arc_start_pos` would panic here.
+//! assert_eq!(checked::arc_start_pos(&Arc::circle(center, radius)), Err(Refusal::BeyondLimit));
+//! ```
+//!
+//! ```should_panic
+//! use arcs::{geometry, vect2d, Arc};
+//!
+//! let _ = geometry::arc_start_pos(&Arc::circle(vect2d::new(50.0, 0.0), 1250000.0005));
+//! ```
+use crate::as_arc::AsArc;
 use crate::checked;
-pub use crate::types::{vect2d, Arc, CurveHit, Param, Refusal};
+use crate::refusal::Refusal;
+use crate::types::vect2d;
+use alloc::vec::Vec;
+
+pub use crate::types::CurveHit;
 
 #[inline]
 #[track_caller]
@@ -35,6 +57,7 @@ fn refused(refusal: Refusal) -> ! {
 
 /// The distance from `p` to the segment from `a` to `b`.
 #[inline]
+#[must_use]
 #[track_caller]
 pub fn point_to_segment_dist(p: vect2d, a: vect2d, b: vect2d) -> f64 {
     answer(checked::point_to_segment_dist(p, a, b))
@@ -42,6 +65,7 @@ pub fn point_to_segment_dist(p: vect2d, a: vect2d, b: vect2d) -> f64 {
 
 /// An SVG arc about its centre: (centre, start angle, end angle, rx, ry). None where the ends coincide or a radius is 0.
 #[inline]
+#[must_use]
 #[track_caller]
 pub fn svg_arc_to_center(
     p1: vect2d, p2: vect2d, rx: f64, ry: f64, rotation: f64, large_arc: bool, sweep: bool,
@@ -51,6 +75,7 @@ pub fn svg_arc_to_center(
 
 /// The circular arc from p1 to p2 through p3: (centre, radius, start angle, end angle, ccw). None for points on a line.
 #[inline]
+#[must_use]
 #[track_caller]
 pub fn circumscribed_arc(p1: vect2d, p2: vect2d, p3: vect2d) -> Option<(vect2d, f64, f64, f64, bool)> {
     unless(Refusal::Degenerate, checked::circumscribed_arc(p1, p2, p3))
@@ -58,27 +83,31 @@ pub fn circumscribed_arc(p1: vect2d, p2: vect2d, p3: vect2d) -> Option<(vect2d, 
 
 /// The distance from `p` to the arc, and the point of the arc that has it.
 #[inline]
+#[must_use]
 #[track_caller]
-pub fn point_to_arc_dist(p: vect2d, a: &Arc) -> (f64, vect2d) {
+pub fn point_to_arc_dist(p: vect2d, a: &(impl AsArc + ?Sized)) -> (f64, vect2d) {
     answer(checked::point_to_arc_dist(p, a))
 }
 
 /// The direction of the arc at the parametric angle `t`: the derivative of [`arc_point_at`].
 #[inline]
+#[must_use]
 #[track_caller]
-pub fn arc_tangent_at(a: &Arc, t: f64) -> vect2d {
+pub fn arc_tangent_at(a: &(impl AsArc + ?Sized), t: f64) -> vect2d {
     answer(checked::arc_tangent_at(a, t))
 }
 
 /// The parametric angle of the direction from the centre to `p`. For a point of the curve this is its parameter.
 #[inline]
+#[must_use]
 #[track_caller]
-pub fn arc_param_at_point(a: &Arc, p: vect2d) -> f64 {
+pub fn arc_param_at_point(a: &(impl AsArc + ?Sized), p: vect2d) -> f64 {
     answer(checked::arc_param_at_point(a, p))
 }
 
 /// The circle through `s` and `e` whose tangent at `s` is `t`: (centre, radius). None where `e` lies on that tangent.
 #[inline]
+#[must_use]
 #[track_caller]
 pub fn circle_tangent_through(s: vect2d, e: vect2d, t: vect2d) -> Option<(vect2d, f64)> {
     unless(Refusal::Degenerate, checked::circle_tangent_through(s, e, t))
@@ -86,27 +115,31 @@ pub fn circle_tangent_through(s: vect2d, e: vect2d, t: vect2d) -> Option<(vect2d
 
 /// The point of the arc at the parametric angle `t`.
 #[inline]
+#[must_use]
 #[track_caller]
-pub fn arc_point_at(a: &Arc, t: f64) -> vect2d {
+pub fn arc_point_at(a: &(impl AsArc + ?Sized), t: f64) -> vect2d {
     answer(checked::arc_point_at(a, t))
 }
 
 /// The point at the start angle.
 #[inline]
+#[must_use]
 #[track_caller]
-pub fn arc_start_pos(a: &Arc) -> vect2d {
+pub fn arc_start_pos(a: &(impl AsArc + ?Sized)) -> vect2d {
     answer(checked::arc_start_pos(a))
 }
 
 /// The point at the end angle.
 #[inline]
+#[must_use]
 #[track_caller]
-pub fn arc_end_pos(a: &Arc) -> vect2d {
+pub fn arc_end_pos(a: &(impl AsArc + ?Sized)) -> vect2d {
     answer(checked::arc_end_pos(a))
 }
 
 /// The point of the segment from `a` to `b` that is nearest to `p`.
 #[inline]
+#[must_use]
 #[track_caller]
 pub fn project_onto_segment(p: vect2d, a: vect2d, b: vect2d) -> vect2d {
     answer(checked::project_onto_segment(p, a, b))
@@ -114,6 +147,7 @@ pub fn project_onto_segment(p: vect2d, a: vect2d, b: vect2d) -> vect2d {
 
 /// Where the lines p1-p2 and p3-p4 cross; where they are nearly parallel, the middle between p1 and p3.
 #[inline]
+#[must_use]
 #[track_caller]
 pub fn line_line_intersection(p1: vect2d, p2: vect2d, p3: vect2d, p4: vect2d) -> vect2d {
     answer(checked::line_line_intersection(p1, p2, p3, p4))
@@ -121,15 +155,16 @@ pub fn line_line_intersection(p1: vect2d, p2: vect2d, p3: vect2d, p4: vect2d) ->
 
 /// The angle as a parameter of the arc's span. None outside the span of an arc that is not closed.
 #[inline]
+#[must_use]
 #[track_caller]
-pub fn arc_param_in_span(arc: &Arc, theta: f64) -> Option<f64> {
+pub fn arc_param_in_span(arc: &(impl AsArc + ?Sized), theta: f64) -> Option<f64> {
     unless(Refusal::OutsideSpan, checked::arc_param_in_span(arc, theta))
 }
 
 /// The crossing of two segments. None for segments that are parallel or do not meet.
 ///
 /// ```
-/// use arcs::geometry::{intersect_segments, vect2d};
+/// use arcs::{geometry::intersect_segments, vect2d};
 ///
 /// let (a1, a2) = (vect2d::new(0.0, 0.0), vect2d::new(2.0, 2.0));
 /// let (b1, b2) = (vect2d::new(0.0, 2.0), vect2d::new(2.0, 0.0));
@@ -137,6 +172,7 @@ pub fn arc_param_in_span(arc: &Arc, theta: f64) -> Option<f64> {
 /// assert!(intersect_segments(a1, a2, a1, a2).is_none());
 /// ```
 #[inline]
+#[must_use]
 #[track_caller]
 pub fn intersect_segments(a1: vect2d, a2: vect2d, b1: vect2d, b2: vect2d) -> Option<CurveHit> {
     answer(checked::intersect_segments(a1, a2, b1, b2))
@@ -144,23 +180,26 @@ pub fn intersect_segments(a1: vect2d, a2: vect2d, b1: vect2d, b2: vect2d) -> Opt
 
 /// The crossings of a segment with an arc, at most 2, the smaller parameter of the segment first.
 #[inline]
+#[must_use]
 #[track_caller]
-pub fn intersect_segment_arc(p1: vect2d, p2: vect2d, arc: &Arc) -> Vec<CurveHit> {
+pub fn intersect_segment_arc(p1: vect2d, p2: vect2d, arc: &(impl AsArc + ?Sized)) -> Vec<CurveHit> {
     answer(checked::intersect_segment_arc(p1, p2, arc))
 }
 
 /// The crossings of two arcs. Two circles are solved; where an ellipse takes part, `a` is searched in 256 cells, and a small
 /// hole can be missed: [`checked::intersect_arcs_at`] searches finer.
 #[inline]
+#[must_use]
 #[track_caller]
-pub fn intersect_arcs(a: &Arc, b: &Arc) -> Vec<CurveHit> {
+pub fn intersect_arcs(a: &(impl AsArc + ?Sized), b: &(impl AsArc + ?Sized)) -> Vec<CurveHit> {
     answer(checked::intersect_arcs(a, b))
 }
 
 /// The parameter of the arc's point nearest to `p`.
 #[inline]
+#[must_use]
 #[track_caller]
-pub fn nearest_arc_param(arc: &Arc, p: vect2d) -> f64 {
+pub fn nearest_arc_param(arc: &(impl AsArc + ?Sized), p: vect2d) -> f64 {
     answer(checked::nearest_arc_param(arc, p))
 }
 
@@ -168,6 +207,7 @@ pub fn nearest_arc_param(arc: &Arc, p: vect2d) -> f64 {
 /// end angle, ccw). The ellipse also passes `bulge` half chords from the middle of the chord, at a right angle to it; a positive
 /// bulge is on the side on which the normals at p1 and p2 meet. None where no ellipse fits.
 #[inline]
+#[must_use]
 #[track_caller]
 pub fn fit_earc_tangent(
     p1: vect2d, t1: vect2d, p2: vect2d, t2: vect2d, bulge: f64,
@@ -177,6 +217,7 @@ pub fn fit_earc_tangent(
 
 /// The point of a rotated ellipse at the parametric angle `t`.
 #[inline]
+#[must_use]
 #[track_caller]
 pub fn ellipse_point(center: vect2d, rx: f64, ry: f64, rot: f64, t: f64) -> vect2d {
     answer(checked::ellipse_point(center, rx, ry, rot, t))
@@ -184,6 +225,7 @@ pub fn ellipse_point(center: vect2d, rx: f64, ry: f64, rot: f64, t: f64) -> vect
 
 /// The direction of a rotated ellipse at the parametric angle `t`: the derivative of [`ellipse_point`].
 #[inline]
+#[must_use]
 #[track_caller]
 pub fn ellipse_tangent(rx: f64, ry: f64, rot: f64, t: f64) -> vect2d {
     answer(checked::ellipse_tangent(rx, ry, rot, t))

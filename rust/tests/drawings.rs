@@ -196,11 +196,11 @@ fn refused_with_6_and_none() {
 #[test]
 #[should_panic(expected = "refused: some number is NaN or infinite")]
 fn a_nan_panics_in_words() {
-    geometry::arc_point_at(&unit_circle(), f64::NAN);
+    let _ = geometry::arc_point_at(&unit_circle(), f64::NAN);
 }
 
 #[test]
 #[should_panic(expected = "refused: some number is beyond its limit")]
 fn a_limit_panics_in_words() {
-    geometry::circumscribed_arc(at(2e6, 0.0), at(0.0, 0.0), at(1.0, 1.0));
+    let _ = geometry::circumscribed_arc(at(2e6, 0.0), at(0.0, 0.0), at(1.0, 1.0));
 }
