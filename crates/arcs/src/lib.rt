@@ -1,4 +1,10 @@
-// The public library: every call takes any number, checks its own, and refuses by document 01's number. It demands nothing of its caller. The refusal of a call with a room can be asked without one.
+// The public library, with the types and constants that its calls speak in. Every call takes any number, checks its own, and refuses by document 01's number. It demands nothing of its caller.
+// The refusal of a call with a room can be asked without one. The routines of part 1, those of `scalar`, `root` and the angles, refuse nothing: each has an answer for every f64.
+// The sources of a crate above need no name but `arcs`. Its line of crates.txt has also the crates that declare the types it uses, as `rt` asks: sine, curves, shapes, hits, checks, calls_answers.
+pub use arccos::acos;
+pub use arctan::atan2;
+pub use calls_crossings::CLOSED_HITS;
+pub use calls_crossings::SEGMENTS_HITS;
 pub use calls_crossings::arcs_refusal;
 pub use calls_crossings::hit;
 pub use calls_crossings::intersect_arcs;
@@ -33,8 +39,40 @@ pub use calls_shapes::fit_earc_tangent;
 pub use calls_shapes::nearest_arc_param;
 pub use calls_shapes::point_to_arc_dist;
 pub use calls_shapes::svg_arc_to_center;
+pub use checks::BEYOND_LIMIT;
+pub use checks::DEEPEST;
+pub use checks::DEGENERATE;
 pub use checks::Found;
 pub use checks::Hunted;
+pub use checks::NOT_A_NUMBER;
 pub use checks::Number;
+pub use checks::OUTSIDE_SPAN;
 pub use checks::Pair;
+pub use checks::ROOM_TOO_SHORT;
+pub use checks::TOO_DEEP;
+pub use curves::Arc;
 pub use curves::Curve;
+pub use curves::Point;
+pub use hits::HIT;
+pub use hits::Lengths;
+pub use hits::Tally;
+pub use root::sqrt;
+pub use scalar::FRAC_PI_2;
+pub use scalar::PI;
+pub use scalar::TAU;
+pub use scalar::abs;
+pub use scalar::clamp;
+pub use scalar::max;
+pub use scalar::min;
+pub use shapes::Circle;
+pub use shapes::Circumscribed;
+pub use shapes::Converted;
+pub use shapes::Fitted;
+pub use shapes::Near;
+pub use sine::SinCos;
+pub use sine::cos;
+pub use sine::sin;
+pub use sine::sin_cos;
+
+// How many hits a room must hold at depth 0 where an ellipse takes part in a pair of arcs. Each depth more asks for twice as many.
+pub const HUNT_HITS: usize = 256;

@@ -2,6 +2,7 @@
 -- leaves at the start of its buffer.
 use Prim.Native.Nat.{ℕ, _≤_}
 use mathlib.Core.Path.{_≡_}
+use mathlib.Core.Bool.{Bool, true}
 use mathlib.Core.List.{List, [], _∷_, _++_}
 use lib.ListN.{take, drop}
 use lib.Ieee.{Float}
@@ -47,6 +48,12 @@ endOf r room out = let f = finished (r .stream) (r .line) room out in take (f .p
 pub record Knows (q : Reading) (bytes : List ℕ) (s : Stream) (line : List ℕ) : Type 0 where
   pub few : s .kept ≤ most
   pub reading : readingOf s line ≡ fed q bytes .reading
+
+-- after a piece: of its bytes up to a place, and of all where its steps' output was written
+pub record KnowsPart (q : Reading) (piece : List ℕ) (written : Bool) (s : Stream) (line : List ℕ) : Type 0 where
+  pub upTo : ℕ
+  pub knows : Knows q (take upTo piece) s line
+  pub all : written ≡ true → take upTo piece ≡ piece
 
 -- after some bytes: the contract of a read does not say which
 pub record KnowsSome (q : Reading) (s : Stream) (line : List ℕ) : Type 0 where

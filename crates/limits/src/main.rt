@@ -2,26 +2,28 @@
 mod copying;
 
 ghost use Prim.Native.Nat.{_≤_};
+use arcs::Arc;
+use arcs::CLOSED_HITS;
 use arcs::Curve;
 use arcs::Found;
+use arcs::HIT;
+use arcs::HUNT_HITS;
 use arcs::Hunted;
 use arcs::Number;
-use curves::Arc;
-use curves::Point;
+use arcs::Point;
 use hits::CurveHit;
-use hits::HIT;
 use libc::STDOUT_FILENO;
 
 // The numbers of two hits, and of a hit in each cell of a depth.
-const TWO: usize = 2 * HIT;
+const TWO: usize = CLOSED_HITS * HIT;
 
-const DEPTH_0: usize = 256 * HIT;
+const DEPTH_0: usize = HUNT_HITS * HIT;
 
-const DEPTH_1: usize = 512 * HIT;
+const DEPTH_1: usize = 2 * DEPTH_0;
 
-const DEPTH_2: usize = 1024 * HIT;
+const DEPTH_2: usize = 2 * DEPTH_1;
 
-const DEPTH_3: usize = 2048 * HIT;
+const DEPTH_3: usize = 2 * DEPTH_2;
 
 fn print(words: &[u8]) {
     io::write_all(STDOUT_FILENO, words);

@@ -57,31 +57,73 @@ fn print(text: &[u8]) {
     io::write_all(STDOUT_FILENO, text);
 }
 
-fn print_counts(rows: u64, differ: u64) {
+// The bytes that a name takes in the list below: as many for each, so that the counts stand in a column.
+const NAME: usize = 24;
+
+// The name i of a list.
+fn print_part(names: &[u8], i: usize) {
+    if i < names.len() / NAME {
+        let from = i * NAME;
+        let to = from + NAME;
+        print(&names[from..to]);
+    }
+}
+
+// The calls have the numbers of the table in bench/src/bin/samples.rs, and all of them 0. One list, since every call of `print` makes the check dearer.
+fn print_name(call: usize) {
+    print_part(
+        b"all:                    \
+          ellipse_point:          \
+          ellipse_tangent:        \
+          arc_point_at:           \
+          arc_tangent_at:         \
+          arc_start_pos:          \
+          arc_end_pos:            \
+          norm_tau:               \
+          arc_param_in_span:      \
+          arc_radii:              \
+          arc_theta_of_pos:       \
+          arc_param_at_point:     \
+          point_to_segment_dist:  \
+          project_onto_segment:   \
+          line_line_intersection: \
+          intersect_segments:     \
+          intersect_segment_arc:  \
+          intersect_arcs:         \
+          intersect:              \
+          hit:                    \
+          point_to_arc_dist:      \
+          nearest_arc_param:      \
+          svg_arc_to_center:      \
+          circumscribed_arc:      \
+          circle_tangent_through: \
+          fit_earc_tangent:       ",
+        call,
+    );
+}
+
+fn print_counts(call: usize, rows: u64, differ: u64) {
+    print_name(call);
     io::print_decimal(STDOUT_FILENO, rows);
     print(b" rows, ");
     io::print_decimal(STDOUT_FILENO, differ);
     print(b" differ");
 }
 
-fn print_call(call: u64, rows: u64, differ: u64) {
-    print(b"call ");
-    io::print_hex(STDOUT_FILENO, call, 1);
-    print(b": ");
-    print_counts(rows, differ);
+fn print_call(call: usize, rows: u64, differ: u64) {
+    print_counts(call, rows, differ);
     print(b"\n");
 }
 
 fn print_calls(rows: &[u64; 26], differ: &[u64; 26]) {
     for call in 1..26usize {
-        print_call(call as u64, rows[call], differ[call]);
+        print_call(call, rows[call], differ[call]);
     }
 }
 
 pub fn print_all(rows: &[u64; 26], differ: &[u64; 26], unread: u64) {
     print_calls(rows, differ);
-    print(b"all: ");
-    print_counts(rows[0], differ[0]);
+    print_counts(0, rows[0], differ[0]);
     print(b", ");
     io::print_decimal(STDOUT_FILENO, unread);
     print(b" could not be read\n");

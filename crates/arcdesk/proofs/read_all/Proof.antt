@@ -10,26 +10,25 @@ use Rattle.arcdesk.proofs.read_all.Statement.{statement}
 use Rattle.arcdesk.proofs.read_all.Tie as tie
 
 abbrev Inv-loop : tie.InvT-loop
-Inv-loop line₀ room₀ out₀ s₀ more₀ turns₀ line room out s more turns = (turns < 2 ^ 64) × KnowsSome start s line
+Inv-loop line₀ room₀ out₀ t₀ turns₀ line room out t turns = (turns < 2 ^ 64) × KnowsSome start (t .stream) line
 
 abbrev μ-loop : tie.MeasureT-loop
-μ-loop line₀ room₀ out₀ s₀ more₀ turns₀ line room out s more turns = turns
+μ-loop line₀ room₀ out₀ t₀ turns₀ line room out t turns = turns
 
 loop-holds : tie.Need-loop-holds Inv-loop μ-loop
 loop-holds c = (omega arith, record { bytes = []; knows = knows-start _ _ (c .begin .ensures) })
 
 read-piece-requires : tie.Need-read-piece-requires Inv-loop μ-loop
 read-piece-requires c κs =
-    let test = c .before .before .before in
+    let test = c .before .before .before .before in
     let loop = test .before .before in
     loop .loop .inv .1 .knows .few
 
 loop-again : tie.Need-loop-again Inv-loop μ-loop
 loop-again c =
-    let read-piece = c .before in
-    let test = read-piece .before .before .before .before in
+    let test = c .before .before .before .before .before in
     let loop = test .before .before in
-    (omega arith, knows-behind _ _ _ _ _ (loop .loop .inv .1) (read-piece .read-piece .ensures))
+    (omega arith, knows-behind _ _ _ _ _ (loop .loop .inv .1) (c .read-piece .ensures))
 
 returns : tie.Need-returns Inv-loop μ-loop
 returns c = c .before .before .loop .inv .1
