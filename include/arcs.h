@@ -111,9 +111,9 @@ uint32_t arcs_nearest_arc_param(const double *a, size_t a_len, uint32_t a_marks,
 
 /* ---- Segments and lines. */
 
-/* out: 1 number, the distance from the point p to the segment from a to b. */
+/* out: 1 number, the distance from the point p to the segment from a to b; to a where it is shorter than 1e-6. */
 uint32_t arcs_point_to_segment_dist(double px, double py, double ax, double ay, double bx, double by, double *out, size_t out_len);
-/* out: 2 numbers, the point of the segment nearest to p. */
+/* out: 2 numbers, the point of the segment nearest to p; a where it is shorter than 1e-6. */
 uint32_t arcs_project_onto_segment(double px, double py, double ax, double ay, double bx, double by, double *out, size_t out_len);
 /* out: 2 numbers, where the line through points 1 and 2 meets the line through points 3 and 4; of lines as good as
  * parallel, the middle between points 1 and 3. */

@@ -40,10 +40,20 @@ static const struct drawing lines[] = {
     {0, {-4.0, 1.0, 11.0, 3.5, 2.0, 9.5, 32.0, 14.5}},
 };
 
+/* A segment shorter than 1e-6 has no direction: its first point is taken. */
+static void try_speck(void)
+{
+    double out[2];
+    check(arcs_project_onto_segment(2.0, 7.5, 1.0, 3.0, 1.0 + 9e-7, 3.0, out, 2) == ARCS_OK && out[0] == 1.0 && out[1] == 3.0,
+          "onto a speck: (%.17g, %.17g)", out[0], out[1]);
+    check(arcs_point_to_segment_dist(4.0, 7.0, 1.0, 3.0, 1.0 + 9e-7, 3.0, out, 1) == ARCS_OK && out[0] == 5.0, "to a speck: %.17g", out[0]);
+}
+
 void test_lines(void)
 {
     group("segments and lines");
     TRY(&point_to_segment_dist, points);
     TRY(&project_onto_segment, points);
     TRY(&line_line_intersection, lines);
+    try_speck();
 }

@@ -173,11 +173,25 @@ static void try_hit(size_t room_len, size_t count, size_t i, int there)
     double out[5];
     uint64_t counts[2] = {77, 78};
     fill(out, 5);
-    check(arcs_hit(hits, room_len, count, i, out, 4, counts, 1) == ARCS_OK, "hit %zu of %zu in a room of %zu is refused", i, count, room_len);
+    check(arcs_hit(hits, room_len, count, i, out, 5, counts, 2) == ARCS_OK, "hit %zu of %zu in a room of %zu is refused", i, count, room_len);
     check(counts[0] == (there ? 4u : 0u) && counts[1] == 78, "hit %zu of %zu in a room of %zu: %d written", i, count, room_len, (int)counts[0]);
     if (there)
         check(memcmp(out, hits + 4 * i, 4 * sizeof out[0]) == 0, "hit %zu of %zu is another", i, count);
     check(untouched(out + (there ? 4 : 0), there ? 1 : 5), "hit %zu of %zu in a room of %zu is written elsewhere", i, count, room_len);
+}
+
+static void try_hit_lengths(void)
+{
+    for (size_t len = 0; len <= 4; len++) {
+        double out[4];
+        uint64_t counts[1] = {77};
+        fill(out, 4);
+        check(arcs_hit(hits, 12, 3, 1, out, len, counts, len == 4 ? 0 : 1) == ARCS_REFUSED_ROOM_TOO_SHORT, "a hit in a slice of %zu", len);
+        check(untouched(out, 4) && counts[0] == 77, "a hit in a slice of %zu is written", len);
+    }
+    double just[4];
+    uint64_t count[1];
+    check(arcs_hit(hits, 12, 3, 1, just, 4, count, 1) == ARCS_OK && count[0] == 4 && just[3] == hits[7], "a hit in a slice of 4");
 }
 
 static void try_hits(void)
@@ -192,13 +206,7 @@ static void try_hits(void)
     try_hit(0, 1, 0, 0);
     try_hit(12, 0, 0, 0);
     try_hit(12, SIZE_MAX, SIZE_MAX - 1, 0);
-    for (size_t len = 0; len <= 4; len++) {
-        double out[4];
-        uint64_t counts[1] = {77};
-        fill(out, 4);
-        check(arcs_hit(hits, 12, 3, 1, out, len, counts, len == 4 ? 0 : 1) == ARCS_REFUSED_ROOM_TOO_SHORT, "a hit in a slice of %zu", len);
-        check(untouched(out, 4) && counts[0] == 77, "a hit in a slice of %zu is written", len);
-    }
+    try_hit_lengths();
 }
 
 void test_rooms(void)

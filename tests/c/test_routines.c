@@ -50,7 +50,7 @@ static void angles(void)
         double both[3] = {UNTOUCHED, UNTOUCHED, UNTOUCHED};
         is_near("the sine", at[i], arcs_sin(at[i]), sin(at[i]));
         is_near("the cosine", at[i], arcs_cos(at[i]), cos(at[i]));
-        check(arcs_sin_cos(at[i], both, 2) == ARCS_OK, "sine and cosine at %g refused", at[i]);
+        check(arcs_sin_cos(at[i], both, 3) == ARCS_OK, "sine and cosine at %g refused", at[i]);
         is("the sine of both", both[0], arcs_sin(at[i]));
         is("the cosine of both", both[1], arcs_cos(at[i]));
         check(untouched(both + 2, 1), "sine and cosine write past their answer");
