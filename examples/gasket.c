@@ -2,6 +2,10 @@
  *
  *     tools/native-lib
  *     cc -Iinclude examples/gasket.c target/native/libarcs.a -lm
+ *
+ * or, after `tools/install PREFIX`, with PKG_CONFIG_PATH=PREFIX/lib/pkgconfig:
+ *
+ *     cc examples/gasket.c $(pkg-config --cflags --libs arcs)
  */
 #include <inttypes.h>
 #include <stdio.h>

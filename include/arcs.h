@@ -14,10 +14,10 @@
  * marks. Angles are in radians. All seven numbers are tested whatever the marks, and some calls read radius_b and rotation
  * of a circle too: give a circle's radius twice, and the rotation 0. A number that a short slice lacks counts as a NaN.
  *
- * ARITHMETIC. The answers are those of a processor that rounds to nearest, keeps subnormal numbers and traps no
- * floating-point exception. Every C program starts so. One that changes it (fesetround, or -ffast-math at the link, by
- * which the whole process flushes subnormal numbers to zero) gets other bits, and nothing is promised of them: flushed,
- * arcs_sqrt(0x1p-1023) is 0x1p-1023 itself. A call may raise exception flags.
+ * ARITHMETIC. A call asks that the processor rounds to nearest, keeps subnormal numbers and traps no floating-point
+ * exception. A C program starts so, unless it is linked with -ffast-math, by which the whole process flushes subnormal
+ * numbers to zero. There, and where fesetround has set another direction, the bits differ and nothing is promised of them:
+ * flushed, arcs_sqrt(0x1p-1023) is 0x1p-1023 itself. A call may raise exception flags.
  *
  * THREADS. The library has no state, allocates nothing and keeps no pointer. Any thread may make any call at any time, as
  * long as no slice that one call writes is used by another.
@@ -55,7 +55,7 @@ extern "C" {
 #define ARCS_REFUSED_OUTSIDE_SPAN 6u
 
 /* The marks of an arc, added together. Others are not read. */
-#define ARCS_MARK_CCW 1u     /* from start to end counter-clockwise */
+#define ARCS_MARK_CCW 1u     /* counter-clockwise from start to end; else clockwise */
 #define ARCS_MARK_CLOSED 2u  /* the whole curve */
 #define ARCS_MARK_ELLIPSE 4u /* an ellipse of radius and radius_b, turned by rotation */
 /* In arcs_intersect alone: the curve is a segment, a slice of four numbers, x1, y1, x2, y2. */
