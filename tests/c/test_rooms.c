@@ -34,7 +34,7 @@ static uint32_t arcs_of(uint32_t a_marks, double x, uint32_t depth, double *room
 
 static uint32_t circles(double x, uint32_t depth, double *room, size_t room_len, uint64_t *counts, size_t counts_len)
 {
-    return arcs_of(CLOSED, x == x ? x + 5 : x, depth, room, room_len, counts, counts_len);
+    return arcs_of(CLOSED, x + 5, depth, room, room_len, counts, counts_len);
 }
 
 static uint32_t hunted(double x, uint32_t depth, double *room, size_t room_len, uint64_t *counts, size_t counts_len)
