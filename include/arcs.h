@@ -13,11 +13,14 @@
  * ARCS. An arc is a slice of seven numbers, in this order: center x, center y, radius, radius_b, rotation, start, end; and
  * marks. Angles are in radians. All seven numbers are tested whatever the marks, and some calls read radius_b and rotation
  * of a circle too: give a circle's radius twice, and the rotation 0. A number that a short slice lacks counts as a NaN.
+ * The span of a partial arc is end - start where it goes counter-clockwise, else start - end; where that is below 0 the arc
+ * has no points for spans and crossings.
  *
  * ARITHMETIC. A call asks that the processor rounds to nearest, keeps subnormal numbers and traps no floating-point
- * exception. A C program starts so, unless it is linked with -ffast-math, by which the whole process flushes subnormal
- * numbers to zero. There, and where fesetround has set another direction, the bits differ and nothing is promised of them:
- * flushed, arcs_sqrt(0x1p-1023) is 0x1p-1023 itself. A call may raise exception flags.
+ * exception. A C program starts so, unless it is linked with -ffast-math, -Ofast or -funsafe-math-optimizations, by which
+ * the whole process flushes subnormal numbers to zero. There, and where fesetround has set another direction, the bits
+ * differ and nothing is promised of them: flushed, arcs_sqrt(0x1p-1023) is 0x1p-1023 itself. A call may raise exception
+ * flags.
  *
  * THREADS. The library has no state, allocates nothing and keeps no pointer. Any thread may make any call at any time, as
  * long as no slice that one call writes is used by another.
@@ -80,7 +83,7 @@ uint32_t arcs_sin_cos(double x, double *out, size_t out_len);
 
 /* The point of an ellipse at the parametric angle t. */
 uint32_t arcs_ellipse_point(double cx, double cy, double rx, double ry, double rot, double t, double *out, size_t out_len);
-/* The derivative of that point by t. */
+/* The derivative of that point by t: the direction in which t grows, whatever the arc's own. */
 uint32_t arcs_ellipse_tangent(double rx, double ry, double rot, double t, double *out, size_t out_len);
 /* The same of an arc, whose center, radii and rotation are read. t need not be in its span. */
 uint32_t arcs_arc_point_at(const double *a, size_t a_len, uint32_t a_marks, double t, double *out, size_t out_len);
@@ -104,9 +107,9 @@ uint32_t arcs_arc_radii(const double *a, size_t a_len, uint32_t a_marks, double 
 uint32_t arcs_arc_theta_of_pos(const double *a, size_t a_len, uint32_t a_marks, double px, double py, double *out, size_t out_len);
 /* out: 1 number, the same by radius and radius_b whatever the marks, a radius below 1e-12 being taken for 1e-12. */
 uint32_t arcs_arc_param_at_point(const double *a, size_t a_len, uint32_t a_marks, double px, double py, double *out, size_t out_len);
-/* out: 1 number, the parameter of the arc's point nearest to (px, py); of a partial circle whose span has no point in that
- * direction the parameter of its nearer end, the start where both are as near. Of an ellipse it is searched for, from 129
- * samples of the span on. */
+/* out: 1 number, the parameter of the arc's point nearest to (px, py); of a partial circle whose span, that of
+ * arcs_arc_param_in_span, has no point in that direction the parameter of its nearer end, the start where both are as near.
+ * Of an ellipse it is searched for, from 129 samples of the span on. */
 uint32_t arcs_nearest_arc_param(const double *a, size_t a_len, uint32_t a_marks, double px, double py, double *out, size_t out_len);
 
 /* ---- Segments and lines. */
@@ -115,8 +118,9 @@ uint32_t arcs_nearest_arc_param(const double *a, size_t a_len, uint32_t a_marks,
 uint32_t arcs_point_to_segment_dist(double px, double py, double ax, double ay, double bx, double by, double *out, size_t out_len);
 /* out: 2 numbers, the point of the segment nearest to p; a where it is shorter than 1e-6. */
 uint32_t arcs_project_onto_segment(double px, double py, double ax, double ay, double bx, double by, double *out, size_t out_len);
-/* out: 2 numbers, where the line through points 1 and 2 meets the line through points 3 and 4; of lines as good as
- * parallel, the middle between points 1 and 3. */
+/* out: 2 numbers, where the line through points 1 and 2 meets the line through points 3 and 4; the middle between points 1
+ * and 3 where the cross product of the two differences is below 1e-12 in size: of lines that are nearly parallel, and of
+ * points that are close together at any angle. */
 uint32_t arcs_line_line_intersection(double x1, double y1, double x2, double y2, double x3, double y3, double x4, double y4,
                                      double *out, size_t out_len);
 
@@ -124,14 +128,16 @@ uint32_t arcs_line_line_intersection(double x1, double y1, double x2, double y2,
  * second, x, y. A segment's parameter is 0 at its first point and 1 at its second. Numbers after the hits stay as they
  * were. A pair without crossings has no hits and is no refusal. */
 
-/* Segments from (ax1, ay1) to (ax2, ay2) and from (bx1, by1) to (bx2, by2). room: 4 numbers. counts: 1, the hits. */
+/* Segments from (ax1, ay1) to (ax2, ay2) and from (bx1, by1) to (bx2, by2). No hit where their cross product is below 1e-12
+ * in size, as of the lines above. room: 4 numbers. counts: 1, the hits. */
 uint32_t arcs_intersect_segments(double ax1, double ay1, double ax2, double ay2, double bx1, double by1, double bx2, double by2,
                                  double *room, size_t room_len, uint64_t *counts, size_t counts_len);
 /* The segment from (x1, y1) to (x2, y2) and the arc a, hits along the segment. room: 8 numbers. counts: 1, the hits. */
 uint32_t arcs_intersect_segment_arc(double x1, double y1, double x2, double y2, const double *a, size_t a_len, uint32_t a_marks,
                                     double *room, size_t room_len, uint64_t *counts, size_t counts_len);
 /* Two arcs. room: 8 numbers for two circles, 1,024 times 2^depth where one is an ellipse; then the span of a is cut into
- * 256 times 2^depth cells, and a cell is a bracket where a passes from one side of b's curve to the other, or begins on it.
+ * 256 times 2^depth cells, and a cell is a bracket where its two ends lie on different sides of b's curve, or its first end
+ * on it. A cell that is crossed twice is none, so that a small hole can be missed; a greater depth sees smaller ones.
  * Hits in the order of the cells; of two circles first the one to the left of the way from a's center to b's.
  * counts: 6, the hits; the brackets; of these those outside a's span, outside b's span, and double; the points of a that
  * were worked out. All but the hits are 0 where nothing is sampled. ARCS_REFUSED_TOO_DEEP for two circles too. */
@@ -148,8 +154,8 @@ uint32_t arcs_hit(const double *room, size_t room_len, size_t count, size_t i, d
 /* ---- Distances, and arcs and circles from points. All but the first can refuse with ARCS_REFUSED_DEGENERATE. */
 
 /* out: 3 numbers, the distance from (px, py) to the arc, and x and y of the arc's point that has it; of a partial circle
- * whose span has no point in that direction its nearer end, the end where both are as near. Of an ellipse it is searched
- * for, from 65 samples of the span on. */
+ * whose span has no point in that direction its nearer end, the end where both are as near. The span is here the difference
+ * brought to 0 .. 2 pi, without slack: a whole turn counts as none. Of an ellipse it is searched for, from 65 samples on. */
 uint32_t arcs_point_to_arc_dist(double px, double py, const double *a, size_t a_len, uint32_t a_marks, double *out, size_t out_len);
 /* An SVG arc from point 1 to point 2. A flag is set where it is not 0. rotation is in radians. Degenerate: the points less
  * than 1e-12 apart in x and in y, or a radius below 1e-12 in size.
@@ -158,17 +164,20 @@ uint32_t arcs_point_to_arc_dist(double px, double py, const double *a, size_t a_
  * it is not. */
 uint32_t arcs_svg_arc_to_center(double x1, double y1, double x2, double y2, double rx, double ry, double rotation, uint32_t large_arc,
                                 uint32_t sweep, double *out, size_t out_len);
-/* The arc from point 1 to point 2 through point 3. Degenerate: points as good as on a line.
- * out: 6 numbers, center x and y, radius, start, end, and ccw as 1 or 0. */
+/* The arc from point 1 to point 2 through point 3. Degenerate: four times the area of the triangle below 1e-12.
+ * out: 6 numbers, center x and y, radius, start, end, and ccw as 1 or 0. The angles are from -pi to pi, so that the end can
+ * lie before the start in the arc's direction: add or take off 2 pi before the arc is handed on. */
 uint32_t arcs_circumscribed_arc(double x1, double y1, double x2, double y2, double x3, double y3, double *out, size_t out_len);
 /* The circle through s and e that has the direction t, of either sign, at s. Degenerate: a direction shorter than 1e-12,
  * or e less than 1e-12 from the tangent. out: 3 numbers, center x and y, radius. */
 uint32_t arcs_circle_tangent_through(double sx, double sy, double ex, double ey, double tx, double ty, double *out, size_t out_len);
-/* The arc of an ellipse from point 1 to point 2 with the directions (tx1, ty1) and (tx2, ty2) there; the
- * ellipse also passes bulge half chords from the middle of the chord, at a right angle to it, for a positive bulge on the
- * side where the normals at the two points meet. Degenerate: points less than 1e-12 apart, a bulge as good as 0, or no
- * ellipse among the curves that do so.
- * out: 8 numbers, center x and y, rx, ry, rotation, start, end, and ccw as 1 or 0. */
+/* The arc of an ellipse from point 1 to point 2 with the tangents (tx1, ty1) and (tx2, ty2) there, of either sign at point
+ * 2; the ellipse also passes bulge half chords from the middle of the chord, at a right angle to it, for a positive bulge on
+ * the side where the normals at the two points meet. Degenerate: points less than 1e-12 apart, a bulge that is less than
+ * 1e-12 from the chord, no ellipse among the curves that do so, or directions so short that a test against 1e-12 takes it
+ * for none: give unit directions. out: 8 numbers, center x and y, rx, ry, rotation, start, end, and ccw as 1 or 0, the angles
+ * from -pi to pi as in arcs_circumscribed_arc. An ellipse whose axes are parallel to x and y, the radii not equal, comes
+ * with its axes exchanged, as the original has it: its start is then not at point 1. */
 uint32_t arcs_fit_earc_tangent(double x1, double y1, double tx1, double ty1, double x2, double y2, double tx2, double ty2, double bulge,
                                double *out, size_t out_len);
 

@@ -31,9 +31,9 @@ use core::ops::Deref;
 /// assert_eq!(hole.start_pos(), vect2d::new(11.0, 0.0));
 /// ```
 ///
-/// Its cost is that of copying nine fields. Two things it cannot do: where only the parameter's type said what an argument is
-/// (`arc_start_pos(&read().into())`), the program has to name it; and an arc that dereferences to a type of another crate cannot
-/// implement it.
+/// Its cost is that of copying nine fields. Three things it cannot do. Where only the parameter's type said what an argument is
+/// (`arc_start_pos(&read().into())`), the program has to name it. It is implemented in the crate that declares the arc: an arc
+/// of another crate needs a wrapper. And an arc that dereferences to a type of another crate cannot implement it.
 #[diagnostic::on_unimplemented(
     message = "`{Self}` does not stand for an arc",
     note = "implement `arcs::AsArc` for the program's own arc"

@@ -73,7 +73,7 @@ pub fn arc_point_at(a: &(impl AsArc + ?Sized), t: f64) -> Result<vect2d, Refusal
     given(|out, len| unsafe { ffi::arcs_arc_point_at(n.as_ptr(), n.len(), marks, t, out, len) }).map(pair)
 }
 
-/// The direction of the arc at the parametric angle `t`: the derivative of [`arc_point_at`].
+/// The direction of the arc at the parametric angle `t`, for rising `t`: the derivative of [`arc_point_at`].
 #[inline]
 pub fn arc_tangent_at(a: &(impl AsArc + ?Sized), t: f64) -> Result<vect2d, Refusal> {
     let (n, marks) = arc(a);
@@ -120,7 +120,8 @@ pub fn arc_param_in_span(a: &(impl AsArc + ?Sized), theta: f64) -> Result<f64, R
     given(|out, len| unsafe { ffi::arcs_arc_param_in_span(n.as_ptr(), n.len(), marks, theta, out, len) }).map(number)
 }
 
-/// The radii that the crossings use: a circle's `radius` stands for both.
+/// The radii by which segments, two circles and the second arc of a search are crossed: a circle's `radius` stands for both. The
+/// first arc of a search takes `radius_b` as it is.
 #[inline]
 pub fn arc_radii(a: &(impl AsArc + ?Sized)) -> Result<(f64, f64), Refusal> {
     let (n, marks) = arc(a);
@@ -159,7 +160,8 @@ pub fn project_onto_segment(p: vect2d, a: vect2d, b: vect2d) -> Result<vect2d, R
     given(|out, len| unsafe { ffi::arcs_project_onto_segment(p.x, p.y, a.x, a.y, b.x, b.y, out, len) }).map(pair)
 }
 
-/// Where the lines p1-p2 and p3-p4 cross; where they are nearly parallel, the middle between p1 and p3.
+/// Where the lines p1-p2 and p3-p4 cross; the middle between p1 and p3 where the cross product of the two differences is below
+/// 1e-12 in size: lines nearly parallel, or points close together.
 #[inline]
 pub fn line_line_intersection(p1: vect2d, p2: vect2d, p3: vect2d, p4: vect2d) -> Result<vect2d, Refusal> {
     // SAFETY: `given` lends a pointer and its length.
@@ -195,7 +197,8 @@ pub fn svg_arc_to_center(
     .map(|[x, y, start, end, rx, ry]| (vect2d::new(x, y), start, end, rx, ry))
 }
 
-/// The circular arc from p1 to p2 through p3: centre, radius, start angle, end angle, whether counter-clockwise.
+/// The circular arc from p1 to p2 through p3: centre, radius, start angle, end angle, whether counter-clockwise. The angles are from
+/// -PI to PI: where the end lies before the start in the arc's direction, a turn is to be added or taken off before it is handed on.
 #[inline]
 pub fn circumscribed_arc(p1: vect2d, p2: vect2d, p3: vect2d) -> Result<(vect2d, f64, f64, f64, bool), Refusal> {
     // SAFETY: `given` lends a pointer and its length.
@@ -221,7 +224,9 @@ pub fn circle_tangent_through(s: vect2d, e: vect2d, t: vect2d) -> Result<(vect2d
 
 /// An arc of the ellipse through p1 with direction t1 and through p2 with direction t2: centre, rx, ry, rotation, start angle,
 /// end angle, whether counter-clockwise. The ellipse also passes `bulge` half chords from the middle of the chord, at a right
-/// angle to it; a positive bulge is on the side on which the normals at p1 and p2 meet.
+/// angle to it; a positive bulge is on the side on which the normals at p1 and p2 meet. Give unit directions; the sign of t2 is not
+/// read. The angles are as in [`circumscribed_arc`]; an ellipse whose axes are parallel to x and y comes with them exchanged, as in
+/// the original.
 #[inline]
 #[allow(clippy::type_complexity)] // the tuple is the original's
 pub fn fit_earc_tangent(
@@ -295,7 +300,7 @@ pub fn intersect_arcs(a: &(impl AsArc + ?Sized), b: &(impl AsArc + ?Sized)) -> R
 }
 
 /// The crossings of two arcs, with `a` searched in 256 times 2^depth cells where an ellipse takes part. A greater depth
-/// sees smaller holes, and takes as much longer.
+/// sees smaller holes; each depth more takes about twice as long.
 ///
 /// ```
 /// use arcs::{checked, vect2d, Arc};

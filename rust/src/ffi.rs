@@ -1,5 +1,5 @@
-//! The exports of the static library, as include/arcs.h has them. A slice is a pointer and a length. All but the routines of
-//! angles and roots give back the refusal's number, 0 for none; a refused call writes nothing.
+//! The exports of the static library, as include/arcs.h has them. A slice is a pointer and a length. All but those that
+//! return an f64 give back the refusal's number, 0 for none; a refused call writes nothing.
 //!
 //! No call has a demand on its numbers or lengths, nor keeps a pointer. So a call is sound where each pointer, with its
 //! length, is that of a Rust slice.

@@ -1,4 +1,4 @@
-//! The functions of a drafting program by their old names and types, so that the program changes an import and no call.
+//! The functions of a drafting program by their old names and types, so that the program changes its imports.
 //!
 //! # Panics
 //!
@@ -63,7 +63,8 @@ pub fn point_to_segment_dist(p: vect2d, a: vect2d, b: vect2d) -> f64 {
     answer(checked::point_to_segment_dist(p, a, b))
 }
 
-/// An SVG arc about its centre: (centre, start angle, end angle, rx, ry). None where the ends coincide or a radius is 0.
+/// An SVG arc about its centre: (centre, start angle, end angle, rx, ry). None where the ends are less than 1e-12 apart in x and
+/// in y, or a radius is below 1e-12 in size.
 #[inline]
 #[must_use]
 #[track_caller]
@@ -73,7 +74,9 @@ pub fn svg_arc_to_center(
     unless(Refusal::Degenerate, checked::svg_arc_to_center(p1, p2, rx, ry, rotation, large_arc, sweep))
 }
 
-/// The circular arc from p1 to p2 through p3: (centre, radius, start angle, end angle, ccw). None for points on a line.
+/// The circular arc from p1 to p2 through p3: (centre, radius, start angle, end angle, ccw). None where four times the area of the
+/// triangle is below 1e-12. The angles are from -PI to PI: where the end lies before the start in the arc's direction, a turn is
+/// to be added or taken off before the arc is handed on.
 #[inline]
 #[must_use]
 #[track_caller]
@@ -89,7 +92,7 @@ pub fn point_to_arc_dist(p: vect2d, a: &(impl AsArc + ?Sized)) -> (f64, vect2d) 
     answer(checked::point_to_arc_dist(p, a))
 }
 
-/// The direction of the arc at the parametric angle `t`: the derivative of [`arc_point_at`].
+/// The direction of the arc at the parametric angle `t`, for rising `t`: the derivative of [`arc_point_at`].
 #[inline]
 #[must_use]
 #[track_caller]
@@ -105,7 +108,8 @@ pub fn arc_param_at_point(a: &(impl AsArc + ?Sized), p: vect2d) -> f64 {
     answer(checked::arc_param_at_point(a, p))
 }
 
-/// The circle through `s` and `e` whose tangent at `s` is `t`: (centre, radius). None where `e` lies on that tangent.
+/// The circle through `s` and `e` whose tangent at `s` is `t`: (centre, radius). None where `t` is shorter than 1e-12, or `e` less
+/// than 1e-12 from that tangent.
 #[inline]
 #[must_use]
 #[track_caller]
@@ -145,7 +149,8 @@ pub fn project_onto_segment(p: vect2d, a: vect2d, b: vect2d) -> vect2d {
     answer(checked::project_onto_segment(p, a, b))
 }
 
-/// Where the lines p1-p2 and p3-p4 cross; where they are nearly parallel, the middle between p1 and p3.
+/// Where the lines p1-p2 and p3-p4 cross; the middle between p1 and p3 where the cross product of the two differences is below
+/// 1e-12 in size: lines nearly parallel, or points close together.
 #[inline]
 #[must_use]
 #[track_caller]
@@ -161,7 +166,7 @@ pub fn arc_param_in_span(arc: &(impl AsArc + ?Sized), theta: f64) -> Option<f64>
     unless(Refusal::OutsideSpan, checked::arc_param_in_span(arc, theta))
 }
 
-/// The crossing of two segments. None for segments that are parallel or do not meet.
+/// The crossing of two segments. None for segments that do not meet, or whose cross product is below 1e-12 in size.
 ///
 /// ```
 /// use arcs::{geometry::intersect_segments, vect2d};
@@ -205,7 +210,9 @@ pub fn nearest_arc_param(arc: &(impl AsArc + ?Sized), p: vect2d) -> f64 {
 
 /// An arc of the ellipse through p1 with direction t1 and through p2 with direction t2: (centre, rx, ry, rotation, start angle,
 /// end angle, ccw). The ellipse also passes `bulge` half chords from the middle of the chord, at a right angle to it; a positive
-/// bulge is on the side on which the normals at p1 and p2 meet. None where no ellipse fits.
+/// bulge is on the side on which the normals at p1 and p2 meet. None where no ellipse fits, or the directions are too short: give
+/// unit directions. The sign of t2 is not read; the angles are as in [`circumscribed_arc`]; an ellipse whose axes are parallel to x
+/// and y comes with them exchanged, as in the original.
 #[inline]
 #[must_use]
 #[track_caller]

@@ -1,11 +1,11 @@
 //! Proved arc functions for drafting programs: points, spans, crossings, distances and constructions of arcs and ellipses.
 //!
 //! The code behind every call is proved to equal a definition that a person can read, refusals and counts included; this
-//! crate carries numbers to it and back. Two modules have the same calls:
+//! crate carries numbers to it and back. It has two modules:
 //!
 //! - [`geometry`] has the names and types that the program calls already. A call outside the limits panics.
-//! - [`checked`] gives a `Result` and never panics. It has, besides, the search of arc pairs at greater depths, the lent
-//!   room and the counts.
+//! - [`checked`] has the same calls with a `Result`, and never panics. It has, besides, the smaller calls of spans, curves of
+//!   either kind, the search of arc pairs at greater depths, the lent room and the counts.
 //!
 //! ```
 //! use arcs::{checked, geometry, vect2d, Arc};
@@ -21,7 +21,7 @@
 //!
 //! # For a program that has these functions from arael
 //!
-//! Its imports change and no call. Every name stands where the original's crates have it, so it is enough to say where the
+//! Its imports change, and no call but one whose argument's type was left to be inferred ([`AsArc`]). Every name stands where the original's crates have it, so it is enough to say where the
 //! crates are now:
 //!
 //! ```
@@ -48,7 +48,7 @@
 //!
 //! **Floating point as IEEE 754 has it by default**: rounding to nearest, with subnormal numbers. The library is proved for
 //! that. In a process that sets another rounding direction or flushes subnormal numbers to zero (a C program linked with
-//! `-ffast-math` does that for the whole process) the bits differ: `sqrt(f64::from_bits(0x0008_0000_0000_0000))` then gives
+//! `-ffast-math` or `-Ofast` does that for the whole process) the bits differ: `sqrt(f64::from_bits(0x0008_0000_0000_0000))` then gives
 //! back the number itself.
 //!
 //! **Nothing of its threads.** The library has no state and keeps no pointer: every call may be made from any thread, and

@@ -1,4 +1,4 @@
--- IEEE 754, 3.4: what a bit pattern of binary64 holds below its sign.
+-- IEEE 754: what a bit pattern of binary64 holds below its sign.
 use Prim.Native.Nat.{ℕ, _+_, _/_, _%_, _^_}
 
 -- the exponent's field, of a pattern without a sign

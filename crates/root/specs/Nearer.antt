@@ -1,4 +1,4 @@
--- IEEE 754, 4.3.1: the result is the number of the format that is nearest to the exact one. Said of a root over whole numbers, by squares.
+-- IEEE 754: the result is the number of the format that is nearest to the exact one. Said of a root over whole numbers, by squares.
 use mathlib.Core.Bool.{false}
 use Prim.Native.Nat.{ℕ, _+_, _*_, _^_, _<_}
 use lib.Dec.{T}

@@ -1,4 +1,4 @@
--- IEEE 754, 5.4.1, squareRoot; 01, 'Roots and angles': "the IEEE 754 value, nearest, ties to even, stated over the whole number of the significand. Root of -0 is -0; of a
+-- IEEE 754's square root; 01, 'Roots and angles': "the IEEE 754 value, nearest, ties to even, stated over the whole number of the significand. Root of -0 is -0; of a
 -- negative or NaN, the NaN above; of plus infinity, itself." specs/Nearer.antt says what makes it the IEEE 754 value.
 use Prim.Native.Nat.{ℕ, zero, suc, _-_, _*_, _/_, _^_}
 use mathlib.Core.Bool.{true, false}
