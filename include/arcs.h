@@ -13,8 +13,8 @@
  * ARCS. An arc is a slice of seven numbers, in this order: center x, center y, radius, radius_b, rotation, start, end; and
  * marks. Angles are in radians. All seven numbers are tested whatever the marks, and some calls read radius_b and rotation
  * of a circle too: give a circle's radius twice, and the rotation 0. A number that a short slice lacks counts as a NaN.
- * The span of a partial arc is end - start where it goes counter-clockwise, else start - end; where that is below 0 the arc
- * has no points for spans and crossings.
+ * The span of a partial arc is end - start where it goes counter-clockwise, else start - end, with a slack of 1e-9 past the
+ * end; where it is below -1e-9 the arc has no points for spans and crossings.
  *
  * ARITHMETIC. A call asks that the processor rounds to nearest, keeps subnormal numbers and traps no floating-point
  * exception. A C program starts so, unless it is linked with -ffast-math, -Ofast or -funsafe-math-optimizations, by which
