@@ -1,26 +1,30 @@
 // Points and tangents of a rotated ellipse (002), operation by operation.
 ghost use mathlib.Core.Path.{_≡_};
+ghost use Rattle.sine.specs.Rule.{sine, cosine};
 ghost use Rattle.arc.specs.Ellipse.{turnPoint, ellipsePoint, ellipseTangent};
 ghost use Rattle.arc.specs.ArcPoint.{arcPointAt, arcTangentAt, arcStartPos, arcEndPos};
 use curves::Arc;
 use curves::Point;
 use sine::SinCos;
 
-// The point at the angle whose sine and cosine are `at`, of an ellipse turned by that of `rot`. The hunt works
-// out `rot` once.
-pub fn turn_point(center: Point, rx: f64, ry: f64, rot: SinCos, at: SinCos) -> Point
-    ensures { λ r. ⌜ r ≡ turnPoint center rx ry (rot .sin) (rot .cos) (at .sin) (at .cos) ⌝ }
+// The point at the angle t of an ellipse turned by the angle whose sine and cosine are `rot`: whoever asks for many points works these out once.
+// The sine of t does not come back beside its cosine: `sine::cos_beside_sin` says why.
+pub fn turn_point(center: Point, rx: f64, ry: f64, rot: SinCos, t: f64) -> Point
+    ensures { λ r. ⌜ r ≡ turnPoint center rx ry (rot .sin) (rot .cos) (sine t) (cosine t) ⌝ }
 {
+    let mut lent = [0.0; 3];
+    let ct = sine::cos_beside_sin(t, &mut lent);
+    let st = lent[2];
     Point {
-        x: center.x + rx * at.cos * rot.cos - ry * at.sin * rot.sin,
-        y: center.y + rx * at.cos * rot.sin + ry * at.sin * rot.cos,
+        x: center.x + rx * ct * rot.cos - ry * st * rot.sin,
+        y: center.y + rx * ct * rot.sin + ry * st * rot.cos,
     }
 }
 
 pub fn ellipse_point(center: Point, rx: f64, ry: f64, rot: f64, t: f64) -> Point
     ensures { λ r. ⌜ r ≡ ellipsePoint center rx ry rot t ⌝ }
 {
-    turn_point(center, rx, ry, sine::sin_cos(rot), sine::sin_cos(t))
+    turn_point(center, rx, ry, sine::sin_cos(rot), t)
 }
 
 pub fn ellipse_tangent(rx: f64, ry: f64, rot: f64, t: f64) -> Point

@@ -24,7 +24,7 @@ pub fn point(f: Frame, t: f64) -> Point
     let a = f.a;
     let turn = f.turn_a;
     let center = a.center;
-    arc::turn_point(center, a.radius, a.radius_b, turn, sine::sin_cos(t))
+    arc::turn_point(center, a.radius, a.radius_b, turn, t)
 }
 
 // A point in the frame in which b's curve is the unit circle.

@@ -13,7 +13,7 @@ pub fn point(a: Arc, turn: SinCos, t: f64) -> Point
     ensures { λ r. ⌜ r ≡ arcPointAt a t ⌝ }
 {
     let center = a.center;
-    arc::turn_point(center, a.radius, a.radius_b, turn, sine::sin_cos(t))
+    arc::turn_point(center, a.radius, a.radius_b, turn, t)
 }
 
 pub fn squared_dist(p: Point, q: Point) -> f64

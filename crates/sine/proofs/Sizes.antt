@@ -1,14 +1,13 @@
 -- How large each number of the rule can be, so that nothing wraps.
 use mathlib.Core.Path.{_≡_, refl}
-use mathlib.Core.Bool.{Bool, true, false, cond, not, _&&_, _||_}
+use mathlib.Core.Bool.{Bool, true, false, cond, not, _&&_}
 use mathlib.Core.List.{List, [], _∷_}
 use Prim.Native.Nat.{ℕ, zero, suc, _+_, _*_, _-_, _/_, _≤_, _<_, _^_}
 use native.Mathlib.Nat.{mul-le-mul}
 use native.Mathlib.Omega.{arith}
-use lib.Dec.{T, leb, ltb, leb→le}
+use lib.Dec.{T, leb, ltb, eqb, leb→le}
 use lib.ListN.{getD}
-use borrow.Author.Tests.{ltb-false}
-use Rattle.laws.proofs.Logic.{or-false-left, or-false-right}
+use borrow.Author.Tests.{ltb-false, eqb-true, le-ltb}
 use Rattle.fixed.specs.High.{high}
 use Rattle.fixed.proofs.Products.{high-le}
 use Rattle.sine_table.specs.Table.{sines, cosines}
@@ -119,10 +118,12 @@ ranged-range k = low (ltb k (2 ^ 54)) refl
     low false e = high' (ltb (2 ^ 55) k) refl (ltb-false k (2 ^ 54) e)
 
 -- a number that is in the range stays as it is
-module _ (k : ℕ) (inside : (ltb k (2 ^ 54) || ltb (2 ^ 55) k) ≡ false) where
+module _ (k : ℕ) (inside : eqb (k / 2 ^ 54) 1 ≡ true) where
   pub inside-range : (2 ^ 54 ≤ k) × (k ≤ 2 ^ 55)
-  inside-range = (ltb-false k (2 ^ 54) (or-false-left (ltb k (2 ^ 54)) (ltb (2 ^ 55) k) inside), ltb-false (2 ^ 55) k (or-false-right (ltb k (2 ^ 54)) (ltb (2 ^ 55) k) inside))
+  inside-range =
+      let q : k / 2 ^ 54 ≡ 1 = eqb-true (k / 2 ^ 54) 1 inside in
+      (omega (arith, q), omega (arith, q))
 
   pub inside-ranged : ranged k ≡ k
   unfolding ranged
-  inside-ranged = rw (or-false-left (ltb k (2 ^ 54)) (ltb (2 ^ 55) k) inside, or-false-right (ltb k (2 ^ 54)) (ltb (2 ^ 55) k) inside) refl
+  inside-ranged = rw (le-ltb k (2 ^ 54) (inside-range .0), le-ltb (2 ^ 55) k (inside-range .1)) refl

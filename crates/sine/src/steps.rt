@@ -1,8 +1,8 @@
 // The steps of the rule on whole numbers.
 ghost use mathlib.Core.Path.{_≡_};
-ghost use mathlib.Core.Bool.{_||_};
-ghost use Prim.Native.Nat.{_≤_, _<_, _+_, _*_, _^_};
-ghost use lib.Dec.{ltb};
+ghost use Prim.Native.Nat.{_≤_, _<_, _+_, _*_, _/_, _^_};
+ghost use mathlib.Core.Bool.{not};
+ghost use lib.Dec.{eqb};
 ghost use Rattle.sine.specs.Node.{apart};
 ghost use Rattle.sine.specs.Short.{bend, lack, shortSine, shortVersine};
 ghost use Rattle.sine.specs.Rule.{turned, rounded, ranged, floated};
@@ -71,11 +71,11 @@ pub fn rounded(t: u64) -> u64
     (t + 128) / 256
 }
 
-// Whether k is outside of the range of the answers.
+// Whether k is outside of the range of the answers, or at its end, 2^55.
 pub fn outside(k: u64) -> bool
-    ensures { λ b. ⌜ b ≡ (ltb k (2 ^ 54) || ltb (2 ^ 55) k) ⌝ }
+    ensures { λ b. ⌜ b ≡ not (eqb (k / 2 ^ 54) 1) ⌝ }
 {
-    (k < 18014398509481984) | (36028797018963968 < k)
+    k / 18014398509481984 != 1
 }
 
 // k in the range of the answers.

@@ -7,8 +7,8 @@ use Rattle.sine.proofs.turned.Tie as tie
 returns : tie.Need-returns
 unfolding float places
 returns c =
-    let r = c .before .rounded .ensures in
-    (rw (r .0) at (c .floats .ensures .0), rw (r .1) at (c .floats .ensures .1))
+    let r = c .before .before .rounded .ensures in
+    (rw (r .1) at (c .floats .ensures .0), rw (r .0) at (c .floats .ensures .1))
 
 pub turned-spec : {M : Type 1} → statement M
 turned-spec =

@@ -6,8 +6,8 @@ use Rattle.arc.proofs.ellipse.ellipse_point.Tie as tie
 
 returns : tie.Need-returns
 unfolding ellipsePoint
-returns c = rw (c .turn-point .ensures, c .before .sin-cos2 .ensures .0, c .before .sin-cos2 .ensures .1, c .before .before .sin-cos .ensures .0, c .before .before .sin-cos .ensures .1)
+returns c = rw (c .turn-point .ensures, c .before .sin-cos .ensures .0, c .before .sin-cos .ensures .1)
 
 pub ellipse-point-spec : {M : Type 1} → statement M
 ellipse-point-spec =
-    tie.close (tie.spec (λ c κs. search needs) (λ c κs. search needs) (λ c κs. search needs) returns)
+    tie.close (tie.spec (λ c κs. search needs) (λ c κs. search needs) returns)

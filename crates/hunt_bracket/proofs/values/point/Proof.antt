@@ -6,8 +6,8 @@ use Rattle.hunt_bracket.proofs.values.point.Tie as tie
 
 returns : tie.Need-returns
 unfolding point
-returns c = rw (c .turn-point .ensures, c .before .sin-cos .ensures .1, c .before .sin-cos .ensures .0)
+returns c = c .turn-point .ensures
 
 pub point-spec : {M : Type 1} → statement M
 point-spec =
-    tie.close (tie.spec (λ c κs. search needs) (λ c κs. search needs) returns)
+    tie.close (tie.spec (λ c κs. search needs) returns)

@@ -6,8 +6,8 @@ use Rattle.nearest.proofs.points.point.Tie as tie
 
 returns : tie.Need-returns
 unfolding ellipsePoint
-returns c = rw (c .turn-point .ensures, c .before .sin-cos .ensures .1, c .before .sin-cos .ensures .0, c .before .before .before .pre .1, c .before .before .before .pre .0)
+returns c = rw (c .turn-point .ensures, c .before .before .pre .1, c .before .before .pre .0)
 
 pub point-spec : {M : Type 1} → statement M
 point-spec =
-    tie.close (tie.spec (λ c κs. search needs) (λ c κs. search needs) returns)
+    tie.close (tie.spec (λ c κs. search needs) returns)
