@@ -2,6 +2,8 @@
 
 ghost use mathlib.Core.Path.{_≡_};
 ghost use Prim.Native.Nat.{_≤_};
+ghost use lib.IntN.{pos};
+ghost use lib.Ieee.{binary64, ofInt};
 ghost use Rattle.arctan.specs.Sizes.{Coefficient, Number, Rest, Fit};
 ghost use Rattle.arctan.specs.Rule.{rough, fineStep, roughStep, lastStep, seriesAt, lessOf, floatOf};
 use crate::table::Row;
@@ -51,9 +53,16 @@ pub fn less_if(t: bool, c: u64, n: u64) -> u64
     if t { c - n } else { n }
 }
 
+// The number nearest to n, as std's own has it, but for the type of the lower half: where both are u64 the compiler for x86-64 casts the two as one vector, which takes longer.
+fn nearest(n: u64) -> f64
+    ensures { λ r. ⌜ r ≡ ofInt binary64 (pos n) ⌝ }
+{
+    ((n >> 32) as f64) * 4294967296.0 + (((n & 0xffff_ffff) as u32) as f64)
+}
+
 // n / 2^61, rounded once.
 pub fn float(n: u64) -> f64
     ensures { λ r. ⌜ r ≡ floatOf n ⌝ }
 {
-    std::num::nearest_u64_to_f64(n) * 4.336808689942018e-19
+    nearest(n) * 4.336808689942018e-19
 }

@@ -7,7 +7,7 @@ use Rattle.arctan.proofs.horner.float.Tie as tie
 
 returns : tie.Need-returns
 unfolding floatOf
-returns c = rw (c .nearest-u64-to-f64 .ensures) refl
+returns c = rw (c .nearest .ensures) refl
 
 pub float-spec : {M : Type 1} → statement M
 float-spec =
