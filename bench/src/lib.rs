@@ -3,6 +3,7 @@ pub mod calls;
 pub mod cases;
 pub mod directed;
 pub mod search;
+pub mod table;
 pub mod trig_page;
 
 use std::time::Instant;
@@ -16,6 +17,21 @@ pub mod original {
 
 pub mod oracle {
     include!(concat!(env!("OUT_DIR"), "/oracle.rs"));
+}
+
+/// The original's text with its roots alone sent to the proved one: what the root costs there.
+pub mod rooted {
+    include!(concat!(env!("OUT_DIR"), "/rooted.rs"));
+}
+
+pub trait Rooted {
+    fn routed_sqrt(self) -> f64;
+}
+
+impl Rooted for f64 {
+    fn routed_sqrt(self) -> f64 {
+        arcs::sqrt(self)
+    }
 }
 
 /// Where the oracle's calls go.
@@ -141,13 +157,11 @@ pub fn bits(x: f64) -> u64 {
 }
 
 /// How two ways of doing the same compare: nanoseconds a call, each piece of the arguments counted by its fastest round, and
-/// the ratio of the first to the second, piece by piece and round by round: its middle and where the middle half lies.
+/// the middle of the ratios of the first to the second, piece by piece and round by round.
 pub struct Compared {
     pub own: f64,
     pub theirs: f64,
-    pub low: f64,
     pub middle: f64,
-    pub high: f64,
 }
 
 /// Short beside the time for which a busy machine takes the processor away.
@@ -181,16 +195,6 @@ pub fn compare<A: Copy, B: Copy>(rounds: usize, ours: &[A], own: impl Fn(A) -> f
     Compared {
         own: mean(&|t| t.0),
         theirs: mean(&|t| t.1),
-        low: ratios[ratios.len() / 4],
         middle: ratios[ratios.len() / 2],
-        high: ratios[ratios.len() * 3 / 4],
     }
-}
-
-/// Prints a comparison.
-pub fn report(what: &str, c: Compared) {
-    println!(
-        "{what:<38} {:>8.1} ns   theirs {:>8.1} ns   ratio {:.2} (half of the times: {:.2} to {:.2}; fastest to fastest {:.2})",
-        c.own, c.theirs, c.middle, c.low, c.high, c.own / c.theirs
-    );
 }
