@@ -198,3 +198,17 @@ pub fn compare<A: Copy, B: Copy>(rounds: usize, ours: &[A], own: impl Fn(A) -> f
         middle: ratios[ratios.len() / 2],
     }
 }
+
+/// How many calls wait for each other in a row.
+const CHAIN: usize = 64;
+
+/// The same where each call waits for the one before it, as in code that goes on from the answer.
+pub fn compare_waiting(rounds: usize, arguments: &[f64], own: impl Fn(f64) -> f64, theirs: impl Fn(f64) -> f64) -> Compared {
+    let chains: Vec<[f64; CHAIN]> = arguments.chunks_exact(CHAIN).map(|xs| xs.try_into().unwrap()).collect();
+    // What is added is too small to change a bit.
+    fn chained(f: impl Fn(f64) -> f64) -> impl Fn([f64; CHAIN]) -> f64 {
+        move |xs| xs.iter().fold(0.0, |last, x| f(x + last * 1e-300))
+    }
+    let c = compare(rounds, &chains, chained(own), &chains, chained(theirs));
+    Compared { own: c.own / CHAIN as f64, theirs: c.theirs / CHAIN as f64, middle: c.middle }
+}

@@ -3,7 +3,7 @@
 //! something is above its own. The calls go through the crate in rust/, as a drafting program's do.
 use arcs::{checked, geometry, vect2d, Arc, Param};
 use bench::table::Table;
-use bench::{compare, original, rooted, seed, Random};
+use bench::{compare, compare_waiting, original, rooted, seed, Random};
 use std::f64::consts::{PI, TAU};
 use std::hint::black_box;
 
@@ -164,6 +164,7 @@ fn distances(table: &mut Table, all: &Both, words: &str, rounds: usize, bar: f64
 fn routines(table: &mut Table, r: &mut Random) {
     let xs: Vec<f64> = (0..4096).map(|_| f64::from_bits(r.bits() >> 12 | (0x3f0 + r.below(32)) << 52)).collect();
     table.row("sqrt", Some(15.0), compare(200, &xs, arcs::sqrt, &xs, |x: f64| x.sqrt()));
+    table.row("sqrt, each waiting for the one before", None, compare_waiting(200, &xs, arcs::sqrt, |x: f64| x.sqrt()));
     for (size, bar, below) in [("TAU", Some(1.25), TAU), ("PI", None, PI), ("1,024", None, 1024.0)] {
         let xs: Vec<f64> = (0..ARGUMENTS).map(|_| r.within(below)).collect();
         let own = |x| {
@@ -182,6 +183,7 @@ fn routines(table: &mut Table, r: &mut Random) {
     table.row("atan2, all quadrants", Some(1.5), compare(ROUNDS, &points, |(y, x)| arcs::atan2(y, x), &points, |(y, x): (f64, f64)| y.atan2(x)));
     let cs: Vec<f64> = (0..ARGUMENTS).map(|_| r.within(1.0)).collect();
     table.row("acos, -1 to 1", Some(2.5), compare(ROUNDS, &cs, arcs::acos, &cs, f64::acos));
+    table.row("acos, each waiting for the one before", None, compare_waiting(ROUNDS, &cs, arcs::acos, f64::acos));
 }
 
 /// A rim and a hole on it, as in the drawing that began all this: the hole is small beside a cell.
