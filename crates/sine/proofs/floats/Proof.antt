@@ -1,7 +1,7 @@
 -- `sine::floats` meets its contract: what is in range stays as it is.
 use mathlib.Core.Path.{_≡_, refl, sym, _∙_}
 use mathlib.Core.Bool.{true}
-use Prim.Native.Nat.{ℕ, _/_, _^_}
+use Prim.Native.Nat.{_/_, _^_}
 use borrow.Author.Needs.{needs}
 use borrow.Author.Tests.{not-false}
 use lib.Dec.{eqb}
@@ -11,7 +11,9 @@ use Rattle.sine.proofs.floats.Statement.{statement}
 use Rattle.sine.proofs.floats.Tie as tie
 
 float-requires : tie.Need-float-requires
-float-requires c κs = rw (c .ranged .ensures) (ranged-range (c .before .before .before .before .args .r .sine))
+float-requires c κs =
+    let outside2 = c .before .before in
+    rw (c .ranged .ensures) (ranged-range (outside2 .before .before .args .r .sine))
 
 float-requires-2 : tie.Need-float-requires-2
 float-requires-2 c κs =
