@@ -14,13 +14,13 @@ impl Table {
         Table::default()
     }
 
-    /// Prints a row. The bar is held against the ratio of the fastest times, in the two places that are printed.
+    /// Prints a row. The bar is held against the ratio of the fastest times as it is, not as it is printed.
     pub fn row(&mut self, words: &str, bar: Option<f64>, c: Compared) {
-        let fastest = (c.own / c.theirs * 100.0).round() / 100.0;
+        let fastest = c.own / c.theirs;
         let said = bar.map_or(String::new(), |bar| bar.to_string());
         println!("| {words} | {:.1} ns | {:.1} ns | {fastest:.2} | {:.2} | {said} |", c.own, c.theirs, c.middle);
         if let Some(bar) = bar.filter(|&bar| fastest > bar) {
-            self.above.push(format!("{words}: {fastest:.2}, bar {bar}"));
+            self.above.push(format!("{words}: {fastest:.3}, bar {bar}"));
         }
     }
 

@@ -55,4 +55,7 @@ fn main() {
     }
     println!("sqrt: {} patterns, {} differ from the machine's", check.tried, check.wrong);
     assert_eq!(arcs::sqrt(-1.0).to_bits(), NAN);
+    if check.wrong > 0 {
+        std::process::exit(1);
+    }
 }
