@@ -1,6 +1,6 @@
 -- The search for an earlier hit, over the hits that a room stands for.
 use mathlib.Core.Path.{_≡_, refl}
-use mathlib.Core.Bool.{false, _||_}
+use mathlib.Core.Bool.{true, false, _||_, or-true}
 use mathlib.Core.List.{List, [], _∷_}
 use Prim.Native.Nat.{ℕ, zero as nought, suc, _+_, _≤_, _<_}
 use native.Mathlib.Nat.{not-suc-le-zero}
@@ -26,3 +26,10 @@ double-past t [] nought h = refl
 double-past t [] (suc i) h = refl
 double-past t (h ∷ hs) nought l = absurd (not-suc-le-zero l)
 double-past t (h ∷ hs) (suc i) l = double-past t hs i (omega arith)
+
+-- a hit near t among those from i on is one among all
+pub double-among : (t : Float) (hs : List CurveHit) (i : ℕ) → double t (drop i hs) ≡ true → double t hs ≡ true
+unfolding double
+double-among t hs nought e = e
+double-among t [] (suc i) e = e
+double-among t (h ∷ hs) (suc i) e = rw (double-among t hs i e) (or-true (near (h .«t_a») t))

@@ -16,20 +16,20 @@ fn near(p: f64, q: f64) -> bool
     scalar::abs(p - q) < 1e-7
 }
 
-// Whether one of the hits in the room has its angle on a near t.
+// Whether one of the hits in the room has its angle on a near t. A double nearly always comes from the neighbouring cell, so the newest hit is looked at first.
 fn seen(room: &[f64], hits: usize, t: f64) -> bool
     requires { ⌜ hits ≤ length (now room) / hitSize ⌝ }
     ensures { λ r. ⌜ OfHits hits (now (room .entry)) (λ hs. r ≡ double t hs) ⌝ }
 {
     let mut found = false;
-    let mut i: usize = 0;
-    while i < hits {
+    let mut i = hits;
+    while i > 0 {
+        i -= 1;
         let h = hits::hit_at(room, i);
         if near(h.t_a, t) {
             found = true;
             break;
         }
-        i += 1;
     }
     found
 }
