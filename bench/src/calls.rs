@@ -60,7 +60,7 @@ fn position(w: &[u64], i: usize) -> vect2d {
     vect2d::new(real(w, i), real(w, i + 1))
 }
 
-fn arc(w: &[u64], i: usize) -> Arc {
+pub fn arc(w: &[u64], i: usize) -> Arc {
     let n = |k| Param::new(real(w, i + k));
     Arc {
         center: Param::new(position(w, i)),
@@ -155,7 +155,7 @@ fn or_refused(refusal: u32, r: Option<impl Numbers>) -> Told {
     r.map_or_else(|| refused(refusal), answer)
 }
 
-fn words_of(c: Counts) -> [u64; 6] {
+pub fn words_of(c: Counts) -> [u64; 6] {
     [c.hits, c.brackets, c.outside_a, c.outside_b, c.doubles, c.evaluations].map(|n| n as u64)
 }
 

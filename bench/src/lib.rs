@@ -2,6 +2,7 @@
 pub mod calls;
 pub mod cases;
 pub mod directed;
+pub mod earlier;
 pub mod search;
 pub mod table;
 pub mod trig_page;
