@@ -137,7 +137,8 @@ uint32_t arcs_intersect_segment_arc(double x1, double y1, double x2, double y2, 
                                     double *room, size_t room_len, uint64_t *counts, size_t counts_len);
 /* Two arcs. room: 8 numbers for two circles, 1,024 times 2^depth where one is an ellipse; then the span of a is cut into
  * 256 times 2^depth cells, and a cell is a bracket where its two ends lie on different sides of b's curve, or its first end
- * on it. A cell that is crossed twice is none, so that a small hole can be missed; a greater depth sees smaller ones.
+ * on it; from depth 1 on the last cell also where its last end lies on it. A cell that is crossed twice is none, so that a
+ * small hole can be missed; a greater depth sees smaller ones.
  * Hits in the order of the cells; of two circles first the one to the left of the way from a's center to b's.
  * counts: 6, the hits; the brackets; of these those outside a's span, outside b's span, and double; the points of a that
  * were worked out. All but the hits are 0 where nothing is sampled. ARCS_REFUSED_TOO_DEEP for two circles too. */

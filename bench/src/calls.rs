@@ -36,6 +36,15 @@ pub enum Arcs {
     Solved,
     /// An ellipse takes part: the pair is searched.
     Searched,
+    /// The pair is searched, and the last sample of the first arc lies on the second.
+    Meeting,
+}
+
+impl Arcs {
+    /// A search takes longer than what is solved: fewer of them are made.
+    pub fn slow(self) -> bool {
+        matches!(self, Arcs::Searched | Arcs::Meeting)
+    }
 }
 
 /// What a call gives back.
@@ -382,7 +391,8 @@ pub fn bow(w: &[u64], i: usize) -> oracle::Arc {
     arc(w, i).into()
 }
 
-/// All of them. Pairs of arcs have a row for those that are solved and one for those that are searched.
+/// All of them. Pairs of arcs have a row for those that are solved, one for those that are searched, and at the end one for those
+/// whose first arc ends on the second.
 pub static CALLS: &[Call] = &[
     call(
         1, "ellipse_point", "pccaa",
@@ -496,4 +506,6 @@ pub static CALLS: &[Call] = &[
         |w| result(checked::fit_earc_tangent(position(w, 0), position(w, 2), position(w, 4), position(w, 6), real(w, 8))),
         |w| or_refused(5, oracle::fit_earc_tangent(at(w, 0), at(w, 2), at(w, 4), at(w, 6), real(w, 8))),
     ),
+    Call { arcs: Arcs::Meeting, ..call(17, "intersect_arcs, a ends on b", "AAdr", own_arcs, oracle_arcs) },
+    Call { arcs: Arcs::Meeting, ..call(18, "intersect, a ends on b", "KKdr", own_curves, oracle_curves) },
 ];

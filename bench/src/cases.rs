@@ -1,6 +1,7 @@
 //! Inputs for the calls: ordinary ones and those at which a rule turns. Some are beyond the limits or no numbers at all.
 use crate::calls::{limits, need, Arcs, Call};
-use crate::{original, Random};
+use crate::search::{implicit, last_sample};
+use crate::{oracle, original, Random};
 use arcs::{vect2d, Arc, Param};
 use std::f64::consts::{FRAC_PI_4, TAU};
 
@@ -99,6 +100,12 @@ fn arc(r: &mut Random) -> Arc {
     }
 }
 
+/// By the root, which every machine rounds alike; `hypot` is a library's own.
+fn distance(p: vect2d, q: vect2d) -> f64 {
+    let (x, y) = (q.x - p.x, q.y - p.y);
+    (x * x + y * y).sqrt()
+}
+
 fn plus(p: vect2d, x: f64, y: f64) -> vect2d {
     vect2d::new(p.x + x, p.y + y)
 }
@@ -158,6 +165,33 @@ fn related(r: &mut Random, a: &Arc) -> Arc {
         b.closed = !a.closed;
     }
     b
+}
+
+/// Two arcs, one at least an ellipse, that meet at the last sample of the first: the inside-outside value there is 0.
+fn meeting(r: &mut Random) -> [Arc; 2] {
+    loop {
+        let (mut a, mut b) = (arc(r), arc(r));
+        if !a.is_ellipse && !b.is_ellipse {
+            a.is_ellipse = true;
+        }
+        let last = oracle::Arc::from(a).point_at(last_sample(&a.into()));
+        // Directions whose squares add up to 1 without rounding, or nearly.
+        let (x, y) = [(1.0, 0.0), (0.0, 1.0), (0.6, 0.8), (0.8, 0.6)][r.below(4) as usize];
+        if r.below(4) != 0 {
+            b.rotation.value = 0.0;
+        }
+        let (ra, rb) = oracle::arc_radii(&b.into());
+        b.center.value = vect2d::new(last.x - signed(r, x) * ra, last.y - signed(r, y) * rb);
+        if r.below(2) == 0 {
+            // Two edges with a common end.
+            let at = oracle::arc_theta_of_pos(&b.into(), last);
+            let other = at + r.within(3.2);
+            (b.start_angle.value, b.end_angle.value) = if r.below(2) == 0 { (at, other) } else { (other, at) };
+        }
+        if implicit(&b.into(), last) == 0.0 {
+            return [a, b];
+        }
+    }
 }
 
 fn point_about(r: &mut Random, a: &Arc) -> vect2d {
@@ -234,7 +268,10 @@ struct Drawing {
 fn drawing(call: &Call, r: &mut Random) -> Drawing {
     let count = |letters: &str| call.takes.chars().filter(|&c| letters.contains(c)).count();
     let mut arcs = Vec::new();
-    for _ in 0..count("AK") {
+    if call.arcs == Arcs::Meeting {
+        arcs.extend(meeting(r));
+    }
+    while arcs.len() < count("AK") {
         let next = match arcs.first() {
             Some(first) if r.below(4) != 0 => related(r, first),
             _ => arc(r),
@@ -274,7 +311,7 @@ fn angle_for(r: &mut Random, arcs: &[Arc]) -> f64 {
 /// A radius beside the half chord, or a bulge.
 fn coordinate_for(r: &mut Random, points: &[vect2d]) -> f64 {
     let half = match points {
-        [p, q, ..] => 0.5 * (q.x - p.x).hypot(q.y - p.y),
+        [p, q, ..] => 0.5 * distance(*p, *q),
         _ => 1.0,
     };
     match r.below(6) {

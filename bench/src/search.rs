@@ -1,5 +1,5 @@
-//! 01's rule for the hunt at every depth, in plain Rust: the original's loop with N = 256 times 2^depth cells, and counts.
-//! Points, spans and angles are the oracle's.
+//! The hunt at every depth, in plain Rust: the original's loop with 01's N = 256 times 2^depth cells and 02's rule for the last of
+//! them, and counts. Points, spans and angles are the oracle's.
 use crate::oracle::{arc_param_in_span, arc_radii, arc_theta_of_pos, vect2d, Arc, CurveHit};
 use crate::Routed;
 use arcs::Counts;
@@ -14,6 +14,13 @@ pub fn implicit(b: &Arc, p: vect2d) -> f64 {
     let xl = (cos_r * dx + sin_r * dy) / ra;
     let yl = (-sin_r * dx + cos_r * dy) / rb;
     xl * xl + yl * yl - 1.0
+}
+
+/// The angle of the last sample, which is the same at every depth: a step times the number of steps is the span, bit for bit.
+pub fn last_sample(a: &Arc) -> f64 {
+    let start = a.start_angle.value;
+    let end = if a.closed { start + TAU } else { a.end_angle.value };
+    start + (end - start)
 }
 
 /// The angles to which the brackets are narrowed, in order, and how many points were looked at for them.
@@ -36,7 +43,9 @@ pub fn narrowed(a: &Arc, b: &Arc, depth: u32) -> (Vec<f64>, usize) {
     for i in 1..=n {
         let t = start + step * i as f64;
         let g_t = g(t);
-        if g_before == 0.0 || g_before * g_t < 0.0 {
+        // 02, K5: "At depths 1 to 3 the last cell shall also bracket when its end value is 0."
+        let ends_on_b = depth > 0 && i == n && g_t == 0.0;
+        if g_before == 0.0 || g_before * g_t < 0.0 || ends_on_b {
             let (mut low, mut high, mut g_low) = (before, t, g_before);
             for _ in 0..60 {
                 let mid = 0.5 * (low + high);

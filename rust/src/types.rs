@@ -169,14 +169,14 @@ pub struct CurveHit {
 
 /// What the sampled search of two arcs counted. All but the hits are 0 where nothing is sampled: two circles, or a segment.
 ///
-/// A bracket is a cell of the first arc whose ends lie on different sides of the second, or whose first end lies on it; a cell
-/// that is crossed twice is none. Each has one fate, so
+/// A bracket is a cell of the first arc whose ends lie on different sides of the second, or whose first end lies on it, and from
+/// depth 1 on the last cell also where its last end does; a cell that is crossed twice is none. Each has one fate, so
 /// `hits + outside_a + outside_b + doubles == brackets` where an ellipse takes part.
 #[derive(Clone, Copy, Debug, Default, PartialEq, Eq)]
 pub struct Counts {
     /// The crossings found.
     pub hits: usize,
-    /// The cells over which the first arc changes sides.
+    /// The cells that catch a crossing.
     pub brackets: usize,
     /// Brackets whose crossing is outside the first arc's span.
     pub outside_a: usize,

@@ -1,4 +1,4 @@
-//! The checked drawings P1 to P10 and the refusals, through both modules.
+//! The checked drawings P1 to P11 and the refusals, through both modules.
 use arcs::{checked, geometry, vect2d, Arc, Curve, CurveHit, Param, Refusal};
 use std::f64::consts::{FRAC_PI_2, PI, TAU};
 
@@ -81,6 +81,25 @@ fn p10_the_gasket_pair() {
     assert_eq!(counted(&flange(), &hole(), 0), (0, 257));
     assert_eq!(counted(&flange(), &hole(), 1), (2, 635));
     assert_eq!(counted(&hole(), &flange(), 0), (2, 379));
+}
+
+#[test]
+fn p11_an_edge_that_ends_on_a_rim() {
+    let edge = Arc {
+        closed: false,
+        start_angle: Param::new(-1.0),
+        end_angle: Param::new(0.0),
+        ..Arc::ellipse(at(0.0, 0.0), 2.0, 1.0, 0.0)
+    };
+    let round = Arc::circle(at(2.0, 1.0), 1.0);
+    assert_eq!(geometry::intersect_arcs(&edge, &round), []);
+    for depth in 0..4 {
+        let found = checked::intersect_arcs_at(&edge, &round, depth).unwrap();
+        let hits = (depth > 0) as usize;
+        assert_eq!((found.counts.hits, found.counts.brackets), (hits, hits));
+        assert_eq!(found.counts.evaluations, (256 << depth) + 1 + 61 * hits);
+        assert!(found.hits.iter().all(|h| h.t_a.abs() < 1e-15 && h.pos.x == 2.0 && h.pos.y.abs() < 1e-15));
+    }
 }
 
 #[test]

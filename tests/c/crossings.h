@@ -23,6 +23,9 @@
 /* Two circles, whose radius_b and rotation are only tested. */
 #define ROUND 1.5, -2.0, 5.0, 9.0, 0.7, -0.5, 3.0
 #define OTHER 4.5, 2.5, 3.5, 8.0, -0.3, 0.4, 5.75
+/* An edge of an ellipse that ends at (2, 0), and a round whose rim goes through that point. */
+#define EDGE 0.0, 0.0, 2.0, 1.0, 0.0, -1.0, 0.0
+#define RIM 2.0, 1.0, 1.0, 1.0, 0.0, 0.0, 0.0
 /* A segment across an arc; the arc the other way round. */
 #define CUT -9.0, -3.5, 12.0, 4.5
 #define BOWL 0.5, 0.25, 7.0, 3.0, 0.4, -0.6, 2.1

@@ -183,7 +183,7 @@ static struct found hunt(struct arc a, struct arc b, unsigned depth)
     double low = a.start, value = inside(a, b, low, &f);
     for (unsigned i = 1; i <= cells; i++) {
         double high = a.start + span / cells * i, next = inside(a, b, high, &f);
-        if (value == 0 || value * next < 0)
+        if (value == 0 || value * next < 0 || (depth > 0 && i == cells && next == 0))
             judge(a, b, halved(a, b, low, value, high, &f), &f);
         low = high;
         value = next;

@@ -2,6 +2,7 @@
 #include "check.h"
 #include "crossings.h"
 #include "tests.h"
+#include <math.h>
 
 static uint32_t ask_intersect_segments(const double *in, uint32_t marks, double *out, size_t out_len)
 {
@@ -89,6 +90,23 @@ static void try_counts(void)
     check(out[1] > 0 && out[2] == out[1] && out[0] == 0, "%g of %g brackets are outside an arc that runs the other way", out[2], out[1]);
 }
 
+/* P11: depth 0 has no bracket, the depths after it one, and a hit at the end of the edge. */
+static void try_edge(void)
+{
+    double edge[] = {EDGE, RIM}, out[MOST_OUT], known[MOST_OUT];
+    for (unsigned depth = 0; depth < 4; depth++) {
+        unsigned found = depth > 0, cells = 256u << depth, marks = PAIR(ELLIPSE | CCW, CLOSED | CCW, depth);
+        check(ask_intersect_arcs(edge, marks, out, 0) == ARCS_OK, "P11 is refused at depth %u", depth);
+        known_intersect_arcs(edge, marks, known);
+        for (unsigned i = 0; i < 6 + 4 * found; i++)
+            check(fabs(out[i] - known[i]) < 1e-9, "number %u of P11 at depth %u is %g, not %g", i, depth, out[i], known[i]);
+        check(out[0] == found && out[1] == found && out[5] == cells + 1 + 61 * found, "P11 at depth %u has %g hits, %g brackets, %g evaluations",
+              depth, out[0], out[1], out[5]);
+        check(!found || (fabs(out[6]) < 1e-15 && out[8] == 2 && fabs(out[9]) < 1e-15), "the hit of P11 at depth %u is %g at (%g, %g)", depth, out[6],
+              out[8], out[9]);
+    }
+}
+
 void test_crossings(void)
 {
     group("crossings");
@@ -96,4 +114,5 @@ void test_crossings(void)
     TRY_ANSWERS(&intersect_segment_arc, segment_and_arc);
     TRY_ANSWERS(&intersect_arcs, two_arcs);
     try_counts();
+    try_edge();
 }

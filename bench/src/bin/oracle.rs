@@ -5,7 +5,7 @@
 //! refusal, the numbers, the counts, and every number of the lent room. A NaN must have the bits 7ff8000000000000. Ends with 1
 //! where anything differs. NAME, or how a name begins, chooses among the calls. The column NaN counts the answers that hold one:
 //! docs/DIFFERENCES.md lists the one call that may.
-use bench::calls::{Arcs, Call, CALLS};
+use bench::calls::{Call, CALLS};
 use bench::{cases::case, seed, Random, NAN};
 
 const SHOWN: usize = 3;
@@ -43,7 +43,7 @@ fn main() {
     println!("{:<28}{:>9}   refused with 1{:>9}{:>9}{:>9}{:>9}{:>9}{:>9}{:>9}", "call", "inputs", 2, 3, 4, 5, 6, "NaN", "differ");
     let mut shown = Vec::new();
     for call in CALLS.iter().filter(|call| call.name.starts_with(&name)) {
-        let inputs = if call.arcs == Arcs::Searched { count / 50 } else { count };
+        let inputs = if call.arcs.slow() { count / 50 } else { count };
         let tally = hold(call, inputs, &mut random);
         let [_, one, others @ ..] = tally.refused;
         print!("{:<28}{:>9}{one:>17}", call.name, tally.inputs);

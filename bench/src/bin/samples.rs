@@ -42,7 +42,7 @@
 //! | 17 | circumscribed_arc | x, y of p1, p2, p3 | center x, y, radius, start, end, ccw as 1.0 or 0.0 |
 //! | 18 | circle_tangent_through | x, y of s, e, t | center x, y, radius |
 //! | 19 | fit_earc_tangent | x, y of p1, t1, p2, t2; bulge | center x, y, rx, ry, rotation, start, end, ccw as 1.0 or 0.0 |
-use bench::calls::{Arcs, Call, Lent, CALLS, ENOUGH};
+use bench::calls::{Call, Lent, CALLS, ENOUGH};
 use bench::{cases::case, directed, seed, Random};
 
 /// How many are drawn a call.
@@ -68,7 +68,7 @@ fn main() {
     }
     let mut random = Random(seed());
     for call in CALLS {
-        let count = if call.arcs == Arcs::Searched { SEARCHED } else { EACH };
+        let count = if call.arcs.slow() { SEARCHED } else { EACH };
         let lines = std::iter::repeat_with(|| line(call, &case(call, &mut random), ENOUGH)).flatten().take(count);
         lines.for_each(|line| println!("{line}"));
     }

@@ -46,7 +46,8 @@ fn drawn(size: f64, radii: [f64; 3], property: impl Fn(&Steps) -> bool, count: u
         }
         let mut r = |size: f64| random.within(size);
         let ends = [r(size), r(size), r(size), r(size)];
-        let half = 0.5 * (ends[0] - ends[2]).hypot(ends[1] - ends[3]);
+        let (x, y) = (ends[0] - ends[2], ends[1] - ends[3]);
+        let half = 0.5 * (x * x + y * y).sqrt();
         let rx = half * radii[(r(1.5) + 1.5) as usize];
         let given = [ends[0], ends[1], ends[2], ends[3], rx, if r(1.0) > 0.0 { rx } else { rx * (1.0 + r(0.5)) }, r(3.0)];
         let flags = [[0, 0], [0, 1], [1, 0], [1, 1]].map(|f| row(22, &[&reals(given), &f]));

@@ -79,11 +79,27 @@ pub fn rows() -> Vec<Row> {
         push(relief, flange, depth);
         // Sample 0 is the start itself: start + step * 0 could differ from it in the sign of a zero alone, and that goes nowhere.
         // Sample values that are 0: at the start, which brackets; at a later sample, which brackets once, from its own cell on; and
-        // at the last, which counts only as the end of its cell.
+        // at the last, which counts only as the end of its cell, and from depth 1 on brackets there.
         push(ellipse(0.0, 0.0, 1.0, 1.0), circle(2.0, 0.0, 1.0), depth);
         push(arc([0.0, 0.0, 1.0, 1.0, 0.0, -1.0, 1.0], CCW | ELLIPSE), circle(2.0, 0.0, 1.0), depth);
         push(arc([0.0, 0.0, 1.0, 1.0, 0.0, -1.0, 0.0], CCW | ELLIPSE), circle(2.0, 0.0, 1.0), depth);
         push(arc([0.0, 0.0, 1.0, 1.0, 0.0, 0.0, 1.0], CCW | ELLIPSE), circle(1.0, 1.0, 1.0), depth);
+        // P11: an edge that ends on the rim of a round. Then the round first; the edge from the other side, clockwise; the edge turned
+        // round, so that it begins on the rim.
+        let (edge, round) = (arc([0.0, 0.0, 2.0, 1.0, 0.0, -1.0, 0.0], CCW | ELLIPSE), circle(2.0, 1.0, 1.0));
+        push(edge, round, depth);
+        push(round, edge, depth);
+        push(arc([0.0, 0.0, 2.0, 1.0, 0.0, 1.0, 0.0], ELLIPSE), circle(2.0, -1.0, 1.0), depth);
+        push(arc([0.0, 0.0, 2.0, 1.0, 0.0, 0.0, -1.0], ELLIPSE), round, depth);
+        // The round's own span begins at the edge's end, ends there, and does not have it.
+        push(edge, arc([2.0, 1.0, 1.0, 1.0, 0.0, -FRAC_PI_2, 0.0], CCW), depth);
+        push(edge, arc([2.0, 1.0, 1.0, 1.0, 0.0, -PI, -FRAC_PI_2], CCW), depth);
+        push(edge, arc([2.0, 1.0, 1.0, 1.0, 0.0, 0.0, 1.0], CCW), depth);
+        // The edge runs against its direction, so that its end is outside its own span.
+        push(arc([0.0, 0.0, 2.0, 1.0, 0.0, -1.0, 0.0], ELLIPSE), round, depth);
+        // A last cell that begins at 0 and ends at 0 is one bracket: cells of 2^-28, at whose size the square of the sine is lost.
+        let fine = ((256 << depth) as f64) * 2f64.powi(-28);
+        push(arc([0.0, 0.0, 1.0, 1.0, 0.0, -fine, 0.0], CCW | ELLIPSE), circle(2.0, 0.0, 1.0), depth);
         // A crossing at an angle so small that 60 halvings do not use up its bits.
         push(arc([0.0, 0.0, 2.0, 1.0, 0.0, -1.0, 1.5], CCW | ELLIPSE), ellipse(0.0, 3.0000001, 4.0, 3.0), depth);
         push(arc([0.0, 0.0, 1.0, 1.0, 0.0, -0.7, 1.1], CCW | ELLIPSE), circle(1.0, 1.0 + 1e-9, 1.0), depth);

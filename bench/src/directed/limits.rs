@@ -38,6 +38,7 @@ pub fn ordinary() -> Vec<Row> {
         }
     };
     let mut numbered: Vec<u32> = CALLS.iter().map(|c: &Call| c.number).collect();
+    numbered.sort();
     numbered.dedup();
     numbered.into_iter().flat_map(numbers).collect()
 }

@@ -8,7 +8,7 @@ use lib.Pow.{pow-mono}
 use Rattle.curves.specs.declared.Arc.{Arc}
 use Rattle.arc.specs.Frame.{arcRadii}
 use Rattle.hunt_bracket.specs.Frame.{frame}
-use Rattle.hunt.specs.Cells.{cells, span}
+use Rattle.hunt.specs.Cells.{cells, span, closingCell}
 use Rattle.hunt.specs.Hunt.{early, hunted}
 use Rattle.laws.specs.Part.{part}
 use Rattle.hunt.proofs.Outcomes.{scanned-small}
@@ -56,7 +56,7 @@ hunted-most a b depth h = go (early (arcRadii b) (span a)) refl
     go true i = rw (hunted-early a b depth i) (omega arith)
     go false i =
         let few = cells-most depth h in
-        let s = scanned-small (frame a b) (a .start) (part (span a) (cells depth)) (cells depth) (omega arith) in
+        let s = scanned-small (frame a b) (a .start) (part (span a) (cells depth)) (closingCell depth) (cells depth) (omega arith) in
         rw (hunted-on a b depth i) (omega (arith, s .2))
 
 few : (c : Crossings) → length (listed c) ≤ mostHits

@@ -10,10 +10,10 @@ use Rattle.curves.specs.declared.Arc.{Arc}
 use Rattle.arc.specs.Frame.{arcRadii}
 use Rattle.hunt_bracket.specs.declared.Frame.{Frame}
 use Rattle.hunt_bracket.specs.Frame.{frame}
-use Rattle.hunt.specs.Cells.{cells, span, firstCells, bracketed}
+use Rattle.hunt.specs.Cells.{cells, span, closingCell, firstCells, bracketed}
 use Rattle.hits.specs.Outcome.{none}
-use Rattle.hunt.specs.Visits.{scanned, fates}
-use Rattle.hunt.specs.Hunt.{early, hunted}
+use Rattle.hunt.specs.Visits.{fates}
+use Rattle.hunt.specs.Hunt.{early, searched, hunted}
 use Rattle.hunt.proofs.Outcomes.{scanned-brackets, scanned-fates, scanned-angles}
 
 -- the tests before the first sample, as the code makes them
@@ -26,7 +26,7 @@ module _ (a b : Arc) (k : ℕ) where
   unfolding hunted
   hunted-early e = rw e
 
-  pub hunted-on : early (arcRadii b) (span a) ≡ false → hunted a b k ≡ scanned (frame a b) (a .start) (part (span a) (cells k)) (cells k)
+  pub hunted-on : early (arcRadii b) (span a) ≡ false → hunted a b k ≡ searched a b k
   unfolding hunted
   hunted-on e = rw e
 
@@ -35,18 +35,17 @@ module _ (a b : Arc) (k : ℕ) where
   unfolding hunted
   hunted-fates = go (early (arcRadii b) (span a))
     where
-      go : (e : Bool) →
-          fates (cond e none (scanned (frame a b) (a .start) (part (span a) (cells k)) (cells k))) ≡ cond e none (scanned (frame a b) (a .start) (part (span a) (cells k)) (cells k)) .brackets
+      go : (e : Bool) → fates (cond e none (searched a b k)) ≡ cond e none (searched a b k) .brackets
       go true = refl
-      go false = scanned-fates (frame a b) (a .start) (part (span a) (cells k)) (cells k)
+      go false = scanned-fates (frame a b) (a .start) (part (span a) (cells k)) (closingCell k) (cells k)
 
   -- "N + 1 + 61 for each bracket, and 0 when an early test ends the call."
   pub hunted-evaluations : early (arcRadii b) (span a) ≡ false → length (hunted a b k .angles) ≡ cells k + 1 + 61 * hunted a b k .brackets
-  hunted-evaluations e = rw (hunted-on e) (scanned-angles (frame a b) (a .start) (part (span a) (cells k)) (cells k))
+  hunted-evaluations e = rw (hunted-on e) (scanned-angles (frame a b) (a .start) (part (span a) (cells k)) (closingCell k) (cells k))
 
   pub hunted-nothing : early (arcRadii b) (span a) ≡ true → length (hunted a b k .angles) ≡ 0
   hunted-nothing e = rw (hunted-early e)
 
   -- the brackets are those of the list of cells
-  pub hunted-brackets : early (arcRadii b) (span a) ≡ false → hunted a b k .brackets ≡ bracketed (firstCells (frame a b) (a .start) (part (span a) (cells k)) (cells k))
-  hunted-brackets e = rw (hunted-on e) (scanned-brackets (frame a b) (a .start) (part (span a) (cells k)) (cells k))
+  pub hunted-brackets : early (arcRadii b) (span a) ≡ false → hunted a b k .brackets ≡ bracketed (firstCells (frame a b) (a .start) (part (span a) (cells k)) (closingCell k) (cells k))
+  hunted-brackets e = rw (hunted-on e) (scanned-brackets (frame a b) (a .start) (part (span a) (cells k)) (closingCell k) (cells k))

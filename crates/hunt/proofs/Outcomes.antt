@@ -7,6 +7,7 @@ use Prim.Native.Nat.{ℕ, zero as nought, suc, _+_, _*_, _^_, _≤_, _<_}
 use native.Mathlib.Nat.{not-suc-le-zero, eq-or-lt-of-le}
 use native.Mathlib.Numerals.{add-one}
 use native.Mathlib.Omega.{arith}
+use lib.Dec.{eqb}
 use lib.ListN.{length, getD, length-append, List·getD-append}
 use lib.Seq.{getD-append-add}
 use lib.Ieee.{Float}
@@ -127,61 +128,61 @@ bracketed-most (c ∷ cs) = omega (arith, most (brackets c), bracketed-most cs)
     most false = omega arith
 
 -- ---- the first n cells
-module _ (f : Frame) (start step : Float) where
-  pub firstCells-length : (n : ℕ) → length (firstCells f start step n) ≡ n
+module _ (f : Frame) (start step : Float) (closing : ℕ) where
+  pub firstCells-length : (n : ℕ) → length (firstCells f start step closing n) ≡ n
   unfolding firstCells
   firstCells-length nought = refl
-  firstCells-length (suc n) = length-append (firstCells f start step n) (cell f start step n ∷ []) ∙ ap (λ (m : ℕ). m + 1) (firstCells-length n) ∙ add-one n
+  firstCells-length (suc n) = length-append (firstCells f start step closing n) (cell f start step closing n ∷ []) ∙ ap (λ (m : ℕ). m + 1) (firstCells-length n) ∙ add-one n
 
   -- cell i of the list is cell i, whatever stands for a place past its end
-  pub firstCells-at : (n i : ℕ) (other : Cell) → i < n → getD (firstCells f start step n) i other ≡ cell f start step i
+  pub firstCells-at : (n i : ℕ) (other : Cell) → i < n → getD (firstCells f start step closing n) i other ≡ cell f start step closing i
   unfolding firstCells
   firstCells-at nought i other h = absurd (not-suc-le-zero h)
   firstCells-at (suc n) i other h = elim (eq-or-lt-of-le h) [
     | inl e ↦
         let same : i ≡ n = omega arith in
-        let at : length (firstCells f start step n) + 0 ≡ i = omega (arith, firstCells-length n) in
-        ap (λ (k : ℕ). getD (firstCells f start step n ++ cell f start step n ∷ []) k other) (sym at) ∙
-        getD-append-add (firstCells f start step n) (cell f start step n ∷ []) 0 other ∙
-        ap (cell f start step) (sym same)
+        let at : length (firstCells f start step closing n) + 0 ≡ i = omega (arith, firstCells-length n) in
+        ap (λ (k : ℕ). getD (firstCells f start step closing n ++ cell f start step closing n ∷ []) k other) (sym at) ∙
+        getD-append-add (firstCells f start step closing n) (cell f start step closing n ∷ []) 0 other ∙
+        ap (cell f start step closing) (sym same)
     | inr l ↦
         let less : i < n = omega arith in
-        let inside : i < length (firstCells f start step n) = omega (arith, firstCells-length n) in
-        List·getD-append (firstCells f start step n) (cell f start step n ∷ []) other i inside ∙ firstCells-at n i other less
+        let inside : i < length (firstCells f start step closing n) = omega (arith, firstCells-length n) in
+        List·getD-append (firstCells f start step closing n) (cell f start step closing n ∷ []) other i inside ∙ firstCells-at n i other less
   ]
 
-  pub scanned-none : scanned f start step 0 ≡ look (start ∷ []) none
+  pub scanned-none : scanned f start step closing 0 ≡ look (start ∷ []) none
   unfolding scanned firstCells visits
   scanned-none = refl
 
-  pub scanned-more : (n : ℕ) → scanned f start step (n + 1) ≡ visit f (cell f start step n) (scanned f start step n)
+  pub scanned-more : (n : ℕ) → scanned f start step closing (n + 1) ≡ visit f (cell f start step closing n) (scanned f start step closing n)
   unfolding scanned firstCells
-  scanned-more n = rw add-one (visits-more f (firstCells f start step n) (cell f start step n) (look (start ∷ []) none))
+  scanned-more n = rw add-one (visits-more f (firstCells f start step closing n) (cell f start step closing n) (look (start ∷ []) none))
 
-  pub scanned-brackets : (n : ℕ) → scanned f start step n .brackets ≡ bracketed (firstCells f start step n)
+  pub scanned-brackets : (n : ℕ) → scanned f start step closing n .brackets ≡ bracketed (firstCells f start step closing n)
   unfolding scanned
-  scanned-brackets n = visits-brackets f (firstCells f start step n) (look (start ∷ []) none) ∙ omega arith
+  scanned-brackets n = visits-brackets f (firstCells f start step closing n) (look (start ∷ []) none) ∙ omega arith
 
-  pub scanned-fates : (n : ℕ) → fates (scanned f start step n) ≡ scanned f start step n .brackets
+  pub scanned-fates : (n : ℕ) → fates (scanned f start step closing n) ≡ scanned f start step closing n .brackets
   unfolding scanned
-  scanned-fates n = omega (arith, visits-fates f (firstCells f start step n) (look (start ∷ []) none), visits-brackets f (firstCells f start step n) (look (start ∷ []) none))
+  scanned-fates n = omega (arith, visits-fates f (firstCells f start step closing n) (look (start ∷ []) none), visits-brackets f (firstCells f start step closing n) (look (start ∷ []) none))
 
-  pub scanned-angles : (n : ℕ) → length (scanned f start step n .angles) ≡ n + 1 + 61 * scanned f start step n .brackets
+  pub scanned-angles : (n : ℕ) → length (scanned f start step closing n .angles) ≡ n + 1 + 61 * scanned f start step closing n .brackets
   unfolding scanned
   scanned-angles n =
-      omega (arith, visits-angles f (firstCells f start step n) (look (start ∷ []) none), visits-brackets f (firstCells f start step n) (look (start ∷ []) none), firstCells-length n)
+      omega (arith, visits-angles f (firstCells f start step closing n) (look (start ∷ []) none), visits-brackets f (firstCells f start step closing n) (look (start ∷ []) none), firstCells-length n)
 
-  pub scanned-most : (n : ℕ) → scanned f start step n .brackets ≤ n
-  scanned-most n = omega (arith, scanned-brackets n, bracketed-most (firstCells f start step n), firstCells-length n)
+  pub scanned-most : (n : ℕ) → scanned f start step closing n .brackets ≤ n
+  scanned-most n = omega (arith, scanned-brackets n, bracketed-most (firstCells f start step closing n), firstCells-length n)
 
   -- a cell by its parts, the next sample being that after i
   pub cell-is : (i : ℕ) (lo hi gLo gHi : Float) → lo ≡ sample start step i → hi ≡ sample start step (i + 1) → gLo ≡ value f lo → gHi ≡ value f hi
-      → _≡_ {A = Cell} (record { lo = lo; hi = hi; «g_lo» = gLo; «g_hi» = gHi }) (cell f start step i)
+      → _≡_ {A = Cell} (record { lo = lo; hi = hi; «g_lo» = gLo; «g_hi» = gHi; closes = eqb (i + 1) closing }) (cell f start step closing i)
   unfolding cell
   cell-is i lo hi gLo gHi p q u v = rw (u, v, p, q, add-one)
 
   -- counts that stay far from 2 ^ 32
-  pub scanned-small : (n : ℕ) → n ≤ 32767 → Small (tally (scanned f start step n)) × (length (scanned f start step n .angles) + 62 < 2 ^ 32) × (length (scanned f start step n .hits) ≤ n)
+  pub scanned-small : (n : ℕ) → n ≤ 32767 → Small (tally (scanned f start step closing n)) × (length (scanned f start step closing n .angles) + 62 < 2 ^ 32) × (length (scanned f start step closing n .hits) ≤ n)
   scanned-small n h =
       let b = scanned-most n in
       let s = scanned-fates n in

@@ -10,7 +10,7 @@ use Rattle.curves.specs.declared.Arc.{Arc}
 use Rattle.curves.specs.declared.Radii.{Radii}
 use Rattle.arc.specs.Frame.{arcRadii}
 use Rattle.hunt_bracket.specs.Frame.{frame}
-use Rattle.hunt.specs.Cells.{cells, span}
+use Rattle.hunt.specs.Cells.{cells, span, closingCell}
 use Rattle.hits.specs.Outcome.{Outcome, none}
 use Rattle.hunt.specs.Visits.{scanned}
 
@@ -18,6 +18,10 @@ use Rattle.hunt.specs.Visits.{scanned}
 unfoldable pub early : Radii → Float → Bool
 early r span = lt (r .a) ten⁻¹² || (lt (r .b) ten⁻¹² || lt (abs (part span 256)) ten⁻¹⁵)
 
+-- all cells of depth k
+abbrev pub searched : Arc → Arc → ℕ → Outcome
+searched a b k = scanned (frame a b) (a .start) (part (span a) (cells k)) (closingCell k) (cells k)
+
 -- THE HUNT of depth k
 unfoldable pub hunted : Arc → Arc → ℕ → Outcome
-hunted a b k = cond (early (arcRadii b) (span a)) none (scanned (frame a b) (a .start) (part (span a) (cells k)) (cells k))
+hunted a b k = cond (early (arcRadii b) (span a)) none (searched a b k)

@@ -51,8 +51,8 @@ visits f [] o = o
 visits f (c ∷ cs) o = visits f cs (visit f c o)
 
 -- the first n cells of the samples start + step * i, after the look at the start
-unfoldable pub scanned : Frame → Float → Float → ℕ → Outcome
-scanned f start step n = visits f (firstCells f start step n) (look (start ∷ []) none)
+unfoldable pub scanned : Frame → Float → Float → ℕ → ℕ → Outcome
+scanned f start step closing n = visits f (firstCells f start step closing n) (look (start ∷ []) none)
 
 -- the four fates together
 abbrev pub fates : Outcome → ℕ

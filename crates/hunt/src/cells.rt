@@ -2,8 +2,9 @@
 ghost use mathlib.Core.Path.{_≡_};
 ghost use Prim.Native.Nat.{_≤_};
 ghost use Rattle.laws.specs.Part.{part};
-ghost use Rattle.hunt.specs.Cells.{cells, span, sample, bracket};
+ghost use Rattle.hunt.specs.Cells.{cells, span, sample, bracket, closingCell, brackets};
 use curves::Arc;
+use hunt_bracket::Cell;
 use scalar::TAU;
 
 // Depth k has 256 * 2^k cells.
@@ -43,9 +44,26 @@ pub fn sample(start: f64, step: f64, i: u32) -> f64
     start + step * (i as f64)
 }
 
-// Whether a cell with these values at its ends brackets a crossing.
-pub fn bracket(first: f64, second: f64) -> bool
+// The Rust's rule: whether these values at a cell's ends bracket a crossing.
+fn bracket(first: f64, second: f64) -> bool
     ensures { λ r. ⌜ r ≡ bracket first second ⌝ }
 {
     first == 0.0 || first * second < 0.0
+}
+
+// Which cell of a depth closes the span, counted from 1. Depth 0 is the Rust's, which has no such cell.
+pub fn closing_cell(depth: u32) -> u32
+    requires { ⌜ depth ≤ 7 ⌝ }
+    ensures { λ r. ⌜ r ≡ closingCell depth ⌝ }
+{
+    if depth == 0 {
+        return 0;
+    }
+    cells(depth)
+}
+
+pub fn brackets(c: Cell) -> bool
+    ensures { λ r. ⌜ r ≡ brackets c ⌝ }
+{
+    bracket(c.g_lo, c.g_hi) || (c.closes && c.g_hi == 0.0)
 }

@@ -11,7 +11,8 @@ ghost use Rattle.hunt.specs.Cells.{cells};
 ghost use Rattle.hits.specs.Holds.{Holds, Steps};
 ghost use Rattle.hunt.specs.Visits.{Small, visit, scanned};
 ghost use Rattle.hunt.specs.Hunt.{early, hunted};
-pub use cells::bracket;
+pub use cells::brackets;
+pub use cells::closing_cell;
 pub use cells::sample;
 use curves::Arc;
 use hits::Tally;
@@ -27,7 +28,7 @@ pub fn visit(f: Frame, c: Cell, t: Tally, room: &mut [f64]) -> Tally
     ensures { λ r. ⌜ Steps (visit f c) t (now (room .entry)) r (now (room .exit)) ⌝ }
 {
     let seen = counts::looked(t, 1);
-    if bracket(c.g_lo, c.g_hi) {
+    if brackets(c) {
         let at = narrow(f, c);
         return settling::settle(f, at, counts::looked(seen, 61), room);
     }
@@ -35,21 +36,23 @@ pub fn visit(f: Frame, c: Cell, t: Tally, room: &mut [f64]) -> Tally
 }
 
 // The first n cells of the samples start + step * i.
-fn scan(f: Frame, start: f64, step: f64, n: u32, room: &mut [f64]) -> Tally
+fn scan(f: Frame, start: f64, step: f64, closing: u32, n: u32, room: &mut [f64]) -> Tally
     requires { ⌜ (n ≤ 32768) × (n ≤ length (now room) / hitSize) ⌝ }
-    ensures { λ r. ⌜ Holds (scanned f start step n) (now (room .entry)) r (now (room .exit)) ⌝ }
+    ensures { λ r. ⌜ Holds (scanned f start step closing n) (now (room .entry)) r (now (room .exit)) ⌝ }
 {
     let mut lo = start;
     let mut g_lo = value(f, start);
     let mut t = counts::looked(counts::none(), 1);
     for i in 0..n {
-        let hi = sample(start, step, i + 1);
+        let next = i + 1;
+        let hi = sample(start, step, next);
         let g_hi = value(f, hi);
         let c = Cell {
             lo: lo,
             hi: hi,
             g_lo: g_lo,
             g_hi: g_hi,
+            closes: next == closing,
         };
         t = visit(f, c, t, room);
         lo = hi;
@@ -91,5 +94,12 @@ pub fn hunt(a: Arc, b: Arc, depth: u32, room: &mut [f64]) -> Tally
         return counts::none();
     }
     let n = cells::cells(depth);
-    scan(f, a.start, cells::step(span, n), n, room)
+    scan(
+        f,
+        a.start,
+        cells::step(span, n),
+        closing_cell(depth),
+        n,
+        room,
+    )
 }

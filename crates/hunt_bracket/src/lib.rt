@@ -20,12 +20,13 @@ pub struct Frame {
     pub radii: Radii,
 }
 
-// A cell of a's span: its two angles and the values there.
+// A cell of a's span: its two angles, the values there, and whether it closes the span, so that a zero at its end counts too.
 pub struct Cell {
     pub lo: f64,
     pub hi: f64,
     pub g_lo: f64,
     pub g_hi: f64,
+    pub closes: bool,
 }
 
 // A bracket that is being narrowed: its two angles and the value at the first.

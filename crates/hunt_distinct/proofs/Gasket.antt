@@ -29,7 +29,7 @@ use Rattle.arc.specs.Frame.{arcRadii}
 use Rattle.hits.specs.declared.CurveHit.{CurveHit}
 use Rattle.hunt_bracket.specs.Frame.{frame, value, point, unit, theta}
 use Rattle.hunt_bracket.specs.Narrow.{last, halved, narrowed}
-use Rattle.hunt.specs.Cells.{cells, span, sample, bracket, brackets, cell}
+use Rattle.hunt.specs.Cells.{cells, span, sample, bracket, closingCell, brackets, cell}
 use Rattle.hunt.specs.Hunt.{early, hunted}
 use Rattle.hunt.proofs.Hunts.{hunted-on}
 use Rattle.hunt_distinct.specs.Gasket.{hole, flange}
@@ -88,7 +88,7 @@ clear k i h = brackets (cellOf k i) && le (at k i ⊖ h .«t_a») (neg ten⁻⁷
 
 -- opened to the last operation, so that it is computed
 unfoldable passes : ℕ → ℕ → ℕ → Bool
-unfolding clear all-unlike unlike last halved narrowed bracket cell sines cosines value point unit theta frame arcRadii sample span sine cosine angle.tau angle.units node under apart
+unfolding clear all-unlike unlike last halved narrowed bracket closingCell brackets cell sines cosines value point unit theta frame arcRadii sample span sine cosine angle.tau angle.units node under apart
     rest bend lack shortSine shortVersine rule.turned sineUnits cosineUnits rounded ranged places floated float high sizeOf normTau arctangent ratio edgeOf edgeSize angleOf floatOf arcOf unitsAt
     placeOf seriesAt upperSteps lastStep fineStep roughStep rough rowAt rowFrom plain raised table coefsAt ofBits toBits add sub mul div rem neg lt le eq ofInt toUnsigned isNan abs
 passes k i j =

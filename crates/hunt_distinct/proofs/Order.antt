@@ -26,7 +26,7 @@ use Rattle.hunt_bracket.specs.declared.Fate.the-variants.{Double, Hit}
 use Rattle.hunt_bracket.specs.Frame.{frame, value, point, theta}
 use Rattle.hunt_bracket.specs.Narrow.{opened, last}
 use Rattle.hunt_bracket.specs.Fate.{double, fate}
-use Rattle.hunt.specs.Cells.{cells, span, sample, brackets, cell}
+use Rattle.hunt.specs.Cells.{cells, span, sample, closingCell, brackets, cell}
 use Rattle.hunt.specs.Visits.{look, settle, angles, resolve, visit, scanned}
 use Rattle.hunt.proofs.Outcomes.{scanned-none, scanned-more}
 use Rattle.hunt_refine.proofs.SampleOrder.{cut-fits, cut-roomy, cut-rises}
@@ -105,16 +105,16 @@ module _ (k : ℕ) where
   at i = sample (hole .start) step i
 
   abbrev pub cellOf : ℕ → Cell
-  cellOf i = cell both (hole .start) step i
+  cellOf i = cell both (hole .start) step (closingCell k) i
 
   abbrev pub hits : ℕ → List CurveHit
-  hits n = scanned both (hole .start) step n .hits
+  hits n = scanned both (hole .start) step (closingCell k) n .hits
 
   next : (i : ℕ) → hits (suc i) ≡ hits i ++ added (brackets (cellOf i)) (double (turned (narrowest (cellOf i))) (hits i)) (hitOn (narrowest (cellOf i)))
   next i =
       ap hits (sym (add-one i))
-      ∙ ap (λ (o : Outcome). o .hits) (scanned-more both (hole .start) step i)
-      ∙ visit-adds (cellOf i) (scanned both (hole .start) step i)
+      ∙ ap (λ (o : Outcome). o .hits) (scanned-more both (hole .start) step (closingCell k) i)
+      ∙ visit-adds (cellOf i) (scanned both (hole .start) step (closingCell k) i)
 
   -- ---- a hit stays where it is
   pub later : (n m : ℕ) → Begins (hits n) (hits (n + m))
@@ -166,7 +166,7 @@ module _ (k : ℕ) where
         (a, le-trans (turned t) t (at (suc i)) b to)
 
     behind : (n : ℕ) → n ≤ cells k → Behind (at n) (hits n)
-    behind nought m = rw (ap (λ (o : Outcome). o .hits) (scanned-none both (hole .start) step)) empty
+    behind nought m = rw (ap (λ (o : Outcome). o .hits) (scanned-none both (hole .start) step (closingCell k))) empty
     behind (suc n) m =
         let (a, b) = param-before n m in
         rw (next n)

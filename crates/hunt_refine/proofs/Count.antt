@@ -63,7 +63,9 @@ unfolding bracketed
 bracketed-more [] c = omega arith
 bracketed-more (d ∷ cs) c = omega (arith, bracketed-more cs c)
 
-pub bracketed-count : (f : Frame) (start step : Float) (n : ℕ) → bracketed (firstCells f start step n) ≡ count (λ (i : ℕ). brackets (cell f start step i)) n
+pub bracketed-count : (f : Frame) (start step : Float) (closing n : ℕ) → bracketed (firstCells f start step closing n) ≡ count (λ (i : ℕ). brackets (cell f start step closing i)) n
 unfolding firstCells count
-bracketed-count f start step nought = unfold bracketed in refl
-bracketed-count f start step (suc n) = bracketed-more (firstCells f start step n) (cell f start step n) ∙ ap (λ (m : ℕ). m + tally (brackets (cell f start step n))) (bracketed-count f start step n)
+bracketed-count f start step closing nought = unfold bracketed in refl
+bracketed-count f start step closing (suc n) =
+    bracketed-more (firstCells f start step closing n) (cell f start step closing n)
+    ∙ ap (λ (m : ℕ). m + tally (brackets (cell f start step closing n))) (bracketed-count f start step closing n)

@@ -3,6 +3,7 @@ pub mod Samples
 pub mod SampleOrder
 pub mod Three
 pub mod Run
+pub mod LastCell
 pub mod Count
 pub mod Narrow
 pub mod Refinement

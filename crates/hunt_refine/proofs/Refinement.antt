@@ -1,5 +1,6 @@
--- DEMAND 3, in the words of specs/Promise.antt: a finer hunt never loses what a coarser one brackets, for any two levels up to 7 (256 * 2 ^ 7 cells).
-use mathlib.Core.Path.{_≡_, refl, sym, ap, subst}
+-- DEMAND 3, in the words of specs/Promise.antt: a finer hunt never loses what a coarser one brackets, for any two levels up to 7 (256 * 2 ^ 7 cells): from level 0, which is without
+-- K5's rule, to any, and between any two that have it.
+use mathlib.Core.Path.{_≡_, refl, sym, ap, _∙_, subst}
 use mathlib.Core.Logic.{inl, inr}
 use mathlib.Core.Bool.{Bool, true, false, cond, not, _||_, true≢false}
 use Prim.Native.Nat.{ℕ, zero as nought, suc, _+_, _-_, _*_, _^_, _≤_, _<_}
@@ -22,9 +23,10 @@ use Rattle.scalar.specs.Angles.{tau}
 use Rattle.curves.specs.declared.Arc.{Arc}
 use Rattle.arc.specs.Frame.{arcRadii}
 use Rattle.hunt_bracket.specs.Frame.{frame}
-use Rattle.hunt.specs.Cells.{cells, span, cell, brackets, bracketed, firstCells}
+use Rattle.hunt.specs.Cells.{cells, span, closingCell, cell, brackets, bracketed, firstCells}
 use Rattle.hunt_bracket.specs.Narrow.{opened, narrowed}
 use Rattle.hunt.specs.Hunt.{early, hunted}
+use Rattle.hunt.proofs.Closing.{closing-none, closing-last}
 use Rattle.hunt.proofs.Hunts.{hunted-early, hunted-brackets}
 use Rattle.hunt_refine.specs.Levels.{sampleAt, cellAt, valueOf, ends}
 use Rattle.hunt_refine.specs.Limits.{Limited}
@@ -32,10 +34,23 @@ use Rattle.hunt_refine.specs.Held.{StartHeld}
 use Rattle.hunt_refine.specs.Promise.{Worked, along, rising, parts, Inside, Contained, EachKept}
 use Rattle.hunt_refine.proofs.Samples.{cut-depths, span-wide}
 use Rattle.hunt_refine.proofs.SampleOrder.{cut-fits, cut-roomy, cut-rises, cut-falls}
-use Rattle.hunt_refine.proofs.Three.{bracket-straddles}
-use Rattle.hunt_refine.proofs.Run.{between, Found, refines}
+use Rattle.hunt_refine.proofs.Run.{Found}
+use Rattle.hunt_refine.proofs.LastCell.{passes, passes-straddles, refines-closing}
 use Rattle.hunt_refine.proofs.Count.{count, count-refines, bracketed-count}
 use Rattle.hunt_refine.proofs.Narrow.{along-refl, along-trans, narrows, held-kept}
+
+-- ---- the cells of two levels, k and k + d
+cells-deeper : (k d : ℕ) → cells (k + d) ≡ 2 ^ d * cells k
+cells-deeper k d = rw (pow-add 2 k d) (omega arith)
+
+-- the last cell of a level that has the rule ends where the last of a finer one does, which has it too
+closing-deeper : (k d i : ℕ) → suc i ≡ closingCell k → 2 ^ d * suc i ≡ closingCell (k + d)
+closing-deeper nought d i e = absurd (not-none (e ∙ closing-none))
+  where
+    not-none : suc i ≡ 0 → ⊥
+    not-none q = absurd (omega arith)
+closing-deeper (suc k) d i e =
+    ap (λ (n : ℕ). 2 ^ d * n) (e ∙ closing-last (suc k) (omega arith)) ∙ sym (closing-last (suc k + d) (omega arith) ∙ cells-deeper (suc k) d)
 
 -- ---- the span of an arc within limits
 span-held : (a : Arc) → T (fits binary64 (span a))
@@ -111,7 +126,7 @@ module _ (a : Arc) (l : Limited a) where
 
     -- ---- THE NARROWED BRACKET
     pub bracket-kept : (b : Arc) → Worked a b k → EachKept a b k
-    unfolding cell
+    unfolding cell brackets
     bracket-kept b w i m c =
         let x = sampleAt a k i in
         let y = sampleAt a k (suc i) in
@@ -123,7 +138,7 @@ module _ (a : Arc) (l : Limited a) where
         held-kept g (rising a) x y rx ry (narrowed g 60 (opened (cellAt a b k i)))
         (narrows g (rising a) x y (cut-fits (a .start) (span a) (cells k) i held)
         (cut-fits (a .start) (span a) (cells k) (suc i) held) rx ry (next-along i m) tx ty
-        (bracket-straddles (g x) (g y) tx ty c) 60 (w .middles i m c))
+        (passes-straddles (closingCell k) (λ (j : ℕ). g (sampleAt a k j)) i tx ty c) 60 (w .middles i m c))
       where
         small' : (i : ℕ) → i < cells k → i ≤ cells k
         small' i m = omega arith
@@ -131,7 +146,7 @@ module _ (a : Arc) (l : Limited a) where
   -- ---- two levels, k and k + d
   module _ (b : Arc) (e : ends a b ≡ false) (k d : ℕ) (h : k + d ≤ 7) (w : Worked a b (k + d)) where
     deeper : cells (k + d) ≡ 2 ^ d * cells k
-    deeper = rw (pow-add 2 k d) (omega arith)
+    deeper = cells-deeper k d
 
     -- sample i of level k is sample 2^d * i of level k + d
     same-sample : (i : ℕ) → i ≤ cells k → sampleAt a k i ≡ sampleAt a (k + d) (2 ^ d * i)
@@ -143,8 +158,12 @@ module _ (a : Arc) (l : Limited a) where
     abbrev fine : ℕ → Float
     fine i = valueOf a b (sampleAt a (k + d) i)
 
-    finer : (i : ℕ) → i < cells k → T (between coarse i) → Found (between fine) (2 ^ d * i) (2 ^ d * suc i)
-    finer = refines coarse fine (2 ^ d) (cells k) (pow-pos d) (λ (i : ℕ) (m : i ≤ cells k). ap (valueOf a b) (same-sample i m)) (λ (j : ℕ) (m : j ≤ 2 ^ d * cells k). w .samples j (rw deeper m))
+    finer : (i : ℕ) → i < cells k → T (passes (closingCell k) coarse i) → Found (passes (closingCell (k + d)) fine) (2 ^ d * i) (2 ^ d * suc i)
+    finer =
+        refines-closing coarse fine (2 ^ d) (cells k) (closingCell k) (closingCell (k + d)) (pow-pos d)
+        (λ (i : ℕ) (m : i ≤ cells k). ap (valueOf a b) (same-sample i m))
+        (λ (j : ℕ) (m : j ≤ 2 ^ d * cells k). w .samples j (rw deeper m))
+        (closing-deeper k d)
 
     within : (i : ℕ) → i < cells k → 2 ^ d * suc i ≤ cells (k + d)
     within i m = rw deeper (mul-le-mul-left (2 ^ d) m)
@@ -152,8 +171,8 @@ module _ (a : Arc) (l : Limited a) where
     own-parts : parts k (k + d) ≡ 2 ^ d
     own-parts = let e : k + d - k ≡ d = omega arith in rw e
 
-    inside : StartHeld a → (i : ℕ) → i < cells k → Found (between fine) (2 ^ d * i) (2 ^ d * suc i) → Inside a b k i (k + d)
-    unfolding cell
+    inside : StartHeld a → (i : ℕ) → i < cells k → Found (passes (closingCell (k + d)) fine) (2 ^ d * i) (2 ^ d * suc i) → Inside a b k i (k + d)
+    unfolding cell brackets
     inside held i m f =
         let u = within i m in
         record {
@@ -167,16 +186,18 @@ module _ (a : Arc) (l : Limited a) where
         }
 
     contains : StartHeld a → (i : ℕ) → i < cells k → T (brackets (cellAt a b k i)) → Inside a b k i (k + d)
-    unfolding cell
+    unfolding cell brackets
     contains held i m c = inside held i m (finer i m c)
 
-    counted : (n : ℕ) → bracketed (firstCells (frame a b) (a .start) (part (span a) (cells n)) (cells n)) ≡ count (between (λ (i : ℕ). valueOf a b (sampleAt a n i))) (cells n)
-    unfolding cell
-    counted n = bracketed-count (frame a b) (a .start) (part (span a) (cells n)) (cells n)
+    counted : (n : ℕ) → bracketed (firstCells (frame a b) (a .start) (part (span a) (cells n)) (closingCell n) (cells n))
+        ≡ count (passes (closingCell n) (λ (i : ℕ). valueOf a b (sampleAt a n i))) (cells n)
+    unfolding cell brackets
+    counted n = bracketed-count (frame a b) (a .start) (part (span a) (cells n)) (closingCell n) (cells n)
 
     grows : hunted a b k .brackets ≤ hunted a b (k + d) .brackets
     grows = rw (hunted-brackets a b k e, hunted-brackets a b (k + d) e, counted k, counted (k + d))
-        (subst (λ (n : ℕ). count (between coarse) (cells k) ≤ count (between fine) n) (sym deeper) (count-refines (between coarse) (between fine) (2 ^ d) (cells k) finer))
+        (subst (λ (n : ℕ). count (passes (closingCell k) coarse) (cells k) ≤ count (passes (closingCell (k + d)) fine) n) (sym deeper)
+        (count-refines (passes (closingCell k) coarse) (passes (closingCell (k + d)) fine) (2 ^ d) (cells k) finer))
 
 -- ---- any two levels: the coarser one's values are among the finer one's
 module _ (a b : Arc) (l : Limited a) (k k' : ℕ) (p : k ≤ k') (q : k' ≤ 7) (w : ends a b ≡ false → Worked a b k') where

@@ -49,7 +49,7 @@ fn settled(t: Tally, d: Fate, room: &mut [f64]) -> Tally {
 }
 
 fn visit(f: Frame, c: Cell, s: Copying, room: &mut [f64]) -> Copying {
-    if hunt::bracket(c.g_lo, c.g_hi) {
+    if hunt::brackets(c) {
         let d = copied(f, c, s, room);
         return Copying {
             tally: settled(s.tally, d, room),
@@ -65,6 +65,7 @@ pub fn hunt(a: Arc, b: Arc, depth: u32, room: &mut [f64]) -> Tally
 {
     let f = hunt_bracket::framed(a, b);
     let n = hunt::cell_count(depth);
+    let closing = hunt::closing_cell(depth);
     let step = TAU / (n as f64);
     let start = a.start;
     let mut lo = start;
@@ -81,13 +82,15 @@ pub fn hunt(a: Arc, b: Arc, depth: u32, room: &mut [f64]) -> Tally
         first: Fate::Double,
     };
     for i in 0..n {
-        let hi = hunt::sample(start, step, i + 1);
+        let next = i + 1;
+        let hi = hunt::sample(start, step, next);
         let g_hi = hunt_bracket::value(f, hi);
         let c = Cell {
             lo: lo,
             hi: hi,
             g_lo: g_lo,
             g_hi: g_hi,
+            closes: next == closing,
         };
         s = visit(f, c, s, room);
         lo = hi;

@@ -255,6 +255,25 @@ fn run_gasket() {
     );
 }
 
+// P11: an edge that ends on the rim of a round.
+fn edge() -> Arc {
+    Arc {
+        center: origin(),
+        radius: 2.0,
+        radius_b: 1.0,
+        rotation: 0.0,
+        start: -1.0,
+        end: 0.0,
+        ccw: true,
+        closed: false,
+        is_ellipse: true,
+    }
+}
+
+fn round() -> Arc {
+    whole(Point { x: 2.0, y: 1.0 }, 1.0, false)
+}
+
 // A point ellipse on b: every sample is a zero, so that every cell is a hit.
 fn on_the_circle() -> Arc {
     whole(Point { x: 1.0, y: 0.0 }, 0.0, true)
@@ -295,6 +314,23 @@ fn print_hit(words: &[u8], h: CurveHit) {
     print_bits(h.pos.x);
     print_bits(h.pos.y);
     print(b"\n");
+}
+
+fn run_edge_at(words: &[u8], a: Arc, b: Arc, depth: u32) {
+    let mut room = [0.0; DEPTH_3];
+    ask_arcs(words, a, b, depth, &mut room);
+    print_hit(b"hit 1:", hits::hit_at(&room, 0));
+}
+
+// Depth 0 is the original's and finds nothing; a finer hunt finds the end. From the round's side depth 0 finds it too.
+fn run_edge() {
+    let mut room = [0.0; DEPTH_0];
+    ask_arcs(b"P11", edge(), round(), 0, &mut room);
+    run_edge_at(b"P11", edge(), round(), 1);
+    run_edge_at(b"P11", edge(), round(), 2);
+    run_edge_at(b"P11", edge(), round(), 3);
+    run_edge_at(b"P11 swapped", round(), edge(), 0);
+    run_edge_at(b"P11 swapped", round(), edge(), 1);
 }
 
 // Whether a hit has the numbers that it should.
@@ -359,6 +395,7 @@ fn main() {
     run_solved_rooms();
     run_searched_rooms();
     run_gasket();
+    run_edge();
     run_full_rooms();
     run_copies();
 }

@@ -26,9 +26,9 @@ returns c =
 
 scan-requires : tie.Need-scan-requires
 scan-requires c κs =
-    let cells = c .before .before in
-    let after-span = cells .before .before .before in
-    let start = after-span .before .before .before in
+    let cells = c .before .before .before in
+    let span = cells .before .before .before in
+    let start = span .before .before .before in
     let z = start .args in
     let power : 2 ^ z .depth ≤ 2 ^ 7 = pow-mono (start .pre .0) in
     rw (cells .cells .ensures) (omega arith, start .pre .1)
@@ -36,7 +36,8 @@ scan-requires c κs =
 returns-2 : tie.Need-returns-2
 returns-2 c =
     let scan = c .before .before in
-    let step = scan .before .before in
+    let closing = scan .before .before in
+    let step = closing .before in
     let cells = step .before in
     let test = cells .before in
     let early = test .before in
@@ -44,8 +45,8 @@ returns-2 c =
     let framed = span .before in
     let z = framed .before .before .args in
     let on = hunted-test (z .a) (z .b) _ _ _ false (framed .framed .ensures) (span .span .ensures) (early .early .ensures) (test .if1 .left) in
-    let is : scanned (framed .framed .result) (z .a .start) (step .step .result) (cells .cells .result) ≡ hunted (z .a) (z .b) (z .depth) =
-    rw (step .step .ensures, framed .framed .ensures, span .span .ensures, cells .cells .ensures) (sym (hunted-on (z .a) (z .b) (z .depth) on)) in
+    let is : scanned (framed .framed .result) (z .a .start) (step .step .result) (closing .closing-cell .result) (cells .cells .result) ≡ hunted (z .a) (z .b) (z .depth) =
+    rw (step .step .ensures, framed .framed .ensures, span .span .ensures, closing .closing-cell .ensures, cells .cells .ensures) (sym (hunted-on (z .a) (z .b) (z .depth) on)) in
     rw (← is) (scan .scan .ensures)
 
 pub hunt-spec : {M : Type 1} → statement M
@@ -53,4 +54,4 @@ hunt-spec =
     tie.close
     (tie.spec
     (λ c κs. search needs) (λ c κs. search needs) (λ c κs. search needs) (λ c κs. search needs) returns
-    (λ c κs. search needs) (λ c κs. search needs) scan-requires (λ c. search needs) returns-2)
+    (λ c κs. search needs) (λ c κs. search needs) (λ c κs. search needs) scan-requires (λ c. search needs) returns-2)

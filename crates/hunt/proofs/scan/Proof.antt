@@ -16,15 +16,15 @@ use Rattle.hunt.proofs.scan.Statement.{statement}
 use Rattle.hunt.proofs.scan.Tie as tie
 
 abbrev Inv-loop : tie.InvT-loop
-Inv-loop f start step n room₀ lo₀ g-lo₀ t₀ i₀ room lo g-lo t i =
+Inv-loop f start step closing n room₀ lo₀ g-lo₀ t₀ i₀ room lo g-lo t i =
     (i ≤ n)
     × (length room ≡ length room₀)
     × (lo ≡ sample start step i)
     × (g-lo ≡ value f lo)
-    × Holds (scanned f start step i) room₀ t room
+    × Holds (scanned f start step closing i) room₀ t room
 
 abbrev μ-loop : tie.MeasureT-loop
-μ-loop f start step n room₀ lo₀ g-lo₀ t₀ i₀ room lo g-lo t i = n - i
+μ-loop f start step closing n room₀ lo₀ g-lo₀ t₀ i₀ room lo g-lo t i = n - i
 
 looked-requires : tie.Need-looked-requires Inv-loop μ-loop
 looked-requires c κs = rw (c .none .ensures) (omega arith)
@@ -35,12 +35,12 @@ loop-holds c =
     let after-value = c .before .before in
     let start = after-value .before .before in
     let z = start .args in
-    let first : c .looked .result ≡ tally (scanned (z .f) (z .start) (z .step) 0) =
+    let first : c .looked .result ≡ tally (scanned (z .f) (z .start) (z .step) (z .closing) 0) =
     c .looked .ensures ∙
     ap (further 1) (c .before .none .ensures) ∙
     look-counts none (z .start ∷ []) 1 refl ∙
-    ap tally (sym (scanned-none (z .f) (z .start) (z .step))) in
-    (omega arith, refl, refl, after-value .value .ensures, holds-empty (ap (λ (o : Outcome). o .hits) (scanned-none (z .f) (z .start) (z .step))) first)
+    ap tally (sym (scanned-none (z .f) (z .start) (z .step) (z .closing))) in
+    (omega arith, refl, refl, after-value .value .ensures, holds-empty (ap (λ (o : Outcome). o .hits) (scanned-none (z .f) (z .start) (z .step) (z .closing))) first)
 
 visit-requires : tie.Need-visit-requires Inv-loop μ-loop
 visit-requires c κs =
@@ -50,7 +50,7 @@ visit-requires c κs =
     let start = after-value .before .before in
     let z = start .args in
     let l = loop .loop in
-    let s = scanned-small (z .f) (z .start) (z .step) (l .i) (omega arith) in
+    let s = scanned-small (z .f) (z .start) (z .step) (z .closing) (l .i) (omega arith) in
     rw (l .inv .4 .counts) (s .0, s .1, omega (arith, s .2))
 
 loop-again : tie.Need-loop-again Inv-loop μ-loop
@@ -63,11 +63,11 @@ loop-again c =
     let start = after-value .before .before in
     let z = start .args in
     let l = loop .loop in
-    let o = scanned (z .f) (z .start) (z .step) (l .i) in
+    let o = scanned (z .f) (z .start) (z .step) (z .closing) (l .i) in
     let v = visited .visit .ensures o (z .room .now) (l .inv .4) in
-    let same = cell-is (z .f) (z .start) (z .step) (l .i) (l .lo) (sampled .sample .result) (l .g-lo) (valued .value2 .result) (l .inv .2)
+    let same = cell-is (z .f) (z .start) (z .step) (z .closing) (l .i) (l .lo) (sampled .sample .result) (l .g-lo) (valued .value2 .result) (l .inv .2)
     (sampled .sample .ensures) (l .inv .3) (valued .value2 .ensures) in
-    let next = sym (scanned-more (z .f) (z .start) (z .step) (l .i)) in (
+    let next = sym (scanned-more (z .f) (z .start) (z .step) (z .closing) (l .i)) in (
       omega arith,
       visited .visit .kept .1 .1 .1 .0 ∙ l .inv .1,
       sampled .sample .ensures,

@@ -38,7 +38,7 @@ returns c =
     let ended = look (z .c .hi ∷ []) o in
     let first : look1 .looked .result ≡ tally ended = look1 .looked .ensures ∙ ap (further 1) (h .counts) ∙ look-counts o (z .c .hi ∷ []) 1 refl in
     let then : more .looked2 .result ≡ tally (look all ended) = more .looked2 .ensures ∙ ap (further 61) first ∙ look-counts ended all 61 (sym (angles-length (z .f) (z .c))) in
-    rw (← bracket .bracket .ensures, test .if1 .taken, ← narrow .narrow .ensures) (settle .settle .ensures (look all ended) lent (record { counts = then; hits = h .hits }))
+    rw (← bracket .brackets .ensures, test .if1 .taken, ← narrow .narrow .ensures) (settle .settle .ensures (look all ended) lent (record { counts = then; hits = h .hits }))
 
 returns-2 : tie.Need-returns-2
 unfolding visit
@@ -47,7 +47,7 @@ returns-2 c =
     let start = looked .before .before in
     let z = start .args in
     λ o lent h.
-    rw (← c .before .bracket .ensures, c .if1 .left)
+    rw (← c .before .brackets .ensures, c .if1 .left)
     (record { counts = looked .looked .ensures ∙ ap (further 1) (h .counts) ∙ look-counts o (z .c .hi ∷ []) 1 refl; hits = h .hits })
 
 pub visit-spec : {M : Type 1} → statement M

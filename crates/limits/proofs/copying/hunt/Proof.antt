@@ -8,10 +8,10 @@ use Rattle.limits.proofs.copying.hunt.Statement.{statement}
 use Rattle.limits.proofs.copying.hunt.Tie as tie
 
 abbrev Inv-loop : tie.InvT-loop
-Inv-loop depth room₀ f n step start lo₀ g-lo₀ s₀ i₀ room lo g-lo s i = (i ≤ n) × (length room ≡ length room₀)
+Inv-loop depth room₀ f n closing step start lo₀ g-lo₀ s₀ i₀ room lo g-lo s i = (i ≤ n) × (length room ≡ length room₀)
 
 abbrev μ-loop : tie.MeasureT-loop
-μ-loop depth room₀ f n step start lo₀ g-lo₀ s₀ i₀ room lo g-lo s i = n - i
+μ-loop depth room₀ f n closing step start lo₀ g-lo₀ s₀ i₀ room lo g-lo s i = n - i
 
 loop-again : tie.Need-loop-again Inv-loop μ-loop
 loop-again c =
@@ -23,5 +23,5 @@ pub hunt-spec : {M : Type 1} → statement M
 hunt-spec =
     tie.close
     (tie.spec
-    Inv-loop μ-loop (λ c κs. search needs) (λ c κs. search needs) (λ c. search needs) (λ c κs. search needs) (λ c κs. search needs) (λ c. (omega arith, refl)) (λ c. omega arith)
+    Inv-loop μ-loop (λ c κs. search needs) (λ c κs. search needs) (λ c κs. search needs) (λ c. search needs) (λ c κs. search needs) (λ c κs. search needs) (λ c. (omega arith, refl)) (λ c. omega arith)
     (λ c κs. search needs) (λ c κs. search needs) (λ c κs. search needs) (λ c. omega arith) (λ c. omega arith) loop-again (λ c. search needs) (λ c. search needs))
