@@ -1,5 +1,6 @@
 // The drawings and limits of document 01 that are run: one line a case. stdout has the lines that are right.
 mod copying;
+mod drawings;
 
 ghost use Prim.Native.Nat.{_≤_};
 use arcs::Arc;
@@ -11,6 +12,13 @@ use arcs::HUNT_HITS;
 use arcs::Hunted;
 use arcs::Number;
 use arcs::Point;
+use drawings::edge;
+use drawings::flange;
+use drawings::hole;
+use drawings::on_the_circle;
+use drawings::origin;
+use drawings::round;
+use drawings::whole;
 use hits::CurveHit;
 use libc::STDOUT_FILENO;
 
@@ -72,24 +80,6 @@ fn print_hunted(words: &[u8], r: Hunted) {
         }
         Hunted::Refused(n) => print_refused(n),
     }
-}
-
-fn whole(center: Point, radius: f64, is_ellipse: bool) -> Arc {
-    Arc {
-        center: center,
-        radius: radius,
-        radius_b: radius,
-        rotation: 0.0,
-        start: 0.0,
-        end: 0.0,
-        ccw: true,
-        closed: true,
-        is_ellipse: is_ellipse,
-    }
-}
-
-fn origin() -> Point {
-    Point { x: 0.0, y: 0.0 }
 }
 
 // A call brings its contract along, which is dear to check. So each is made in one place, and the cases are told to that.
@@ -228,21 +218,6 @@ fn run_searched_rooms() {
     run_searched(4, &mut less_0);
 }
 
-fn flange() -> Arc {
-    whole(origin(), 1000.0, true)
-}
-
-fn hole() -> Arc {
-    whole(
-        Point {
-            x: 999.9247,
-            y: 12.2715,
-        },
-        10.0,
-        false,
-    )
-}
-
 fn run_gasket() {
     let mut room = [0.0; DEPTH_0];
     ask_arcs(b"P10 swapped", hole(), flange(), 0, &mut room);
@@ -253,30 +228,6 @@ fn run_gasket() {
         0,
         &mut room,
     );
-}
-
-// P11: an edge that ends on the rim of a round.
-fn edge() -> Arc {
-    Arc {
-        center: origin(),
-        radius: 2.0,
-        radius_b: 1.0,
-        rotation: 0.0,
-        start: -1.0,
-        end: 0.0,
-        ccw: true,
-        closed: false,
-        is_ellipse: true,
-    }
-}
-
-fn round() -> Arc {
-    whole(Point { x: 2.0, y: 1.0 }, 1.0, false)
-}
-
-// A point ellipse on b: every sample is a zero, so that every cell is a hit.
-fn on_the_circle() -> Arc {
-    whole(Point { x: 1.0, y: 0.0 }, 0.0, true)
 }
 
 fn run_full(depth: u32, room: &mut [f64]) {
