@@ -62,6 +62,7 @@ pub fn closing_cell(depth: u32) -> u32
     cells(depth)
 }
 
+// Whether a cell brackets a crossing: one bracket, also where both rules hold.
 pub fn brackets(c: Cell) -> bool
     ensures { λ r. ⌜ r ≡ brackets c ⌝ }
 {

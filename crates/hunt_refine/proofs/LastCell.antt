@@ -17,11 +17,11 @@ use Rattle.hunt_refine.proofs.Three.{bracket-straddles}
 use Rattle.hunt_refine.proofs.Run.{between, Found, refines}
 
 -- cell i, of values v, where the cell that closes is the one before the sample `closing`
-abbrev ends : ℕ → (ℕ → Float) → ℕ → Bool
-ends closing v i = eqb (suc i) closing && eq (v (suc i)) zero
+abbrev endsAtZero : ℕ → (ℕ → Float) → ℕ → Bool
+endsAtZero closing v i = eqb (suc i) closing && eq (v (suc i)) zero
 
 abbrev pub passes : ℕ → (ℕ → Float) → ℕ → Bool
-passes closing v i = between v i || ends closing v i
+passes closing v i = between v i || endsAtZero closing v i
 
 -- a cell passes by the Rust's rule or by that of the last cell
 pub data Rule (closing : ℕ) (v : ℕ → Float) (i : ℕ) : Type 0 where
@@ -29,14 +29,14 @@ pub data Rule (closing : ℕ) (v : ℕ → Float) (i : ℕ) : Type 0 where
   closed : suc i ≡ closing → T (eq (v (suc i)) zero) → Rule closing v i
 
 by-rule : (closing : ℕ) (v : ℕ → Float) (i : ℕ) → T (passes closing v i) → Rule closing v i
-by-rule closing v i h = elim (or-e (between v i) (ends closing v i) h) [
+by-rule closing v i h = elim (or-e (between v i) (endsAtZero closing v i) h) [
   | inl c ↦ crossed c
   | inr e ↦ closed (eqb→eq (suc i) closing (and-l (eqb (suc i) closing) (eq (v (suc i)) zero) e)) (and-r (eqb (suc i) closing) (eq (v (suc i)) zero) e)
 ]
 
 passes-rule : (closing : ℕ) (v : ℕ → Float) (i : ℕ) → Rule closing v i → T (passes closing v i)
-passes-rule closing v i (crossed c) = or-l (between v i) (ends closing v i) c
-passes-rule closing v i (closed e z) = or-r (between v i) (ends closing v i) (and-i (eqb (suc i) closing) (eq (v (suc i)) zero) (eq→eqb e) z)
+passes-rule closing v i (crossed c) = or-l (between v i) (endsAtZero closing v i) c
+passes-rule closing v i (closed e z) = or-r (between v i) (endsAtZero closing v i) (and-i (eqb (suc i) closing) (eq (v (suc i)) zero) (eq→eqb e) z)
 
 -- what passes straddles
 pub passes-straddles : (closing : ℕ) (v : ℕ → Float) (i : ℕ) → T (tame (v i)) → T (tame (v (suc i))) → T (passes closing v i) → T (straddles (v i) (v (suc i)))
