@@ -1,6 +1,6 @@
 //! Edges of ellipses that end on a circle, and how many of them the hunt finds at their end, depth by depth. `bench/run ends [SEED]`
 //!
-//! Two kinds. Typed: every number is a multiple of an eighth, the edge ends at a quarter of a turn, and the circle is put so that its
+//! Two kinds. Typed: every length is a multiple of an eighth, the edge ends at a quarter of a turn, and the circle is put so that its
 //! rim goes through the point where the edge ends. Cut: a whole ellipse is asked against a circle, and ends with the parameter of a
 //! hit, as a drafting program cuts it. That parameter is rounded, so that the edge's last point lies on the circle, past it or short
 //! of it by a hair: its inside-outside value there says which. Nothing is held against anything here; the table is for a drafter.
@@ -79,9 +79,9 @@ fn tried(words: &str, r: &mut Random, one: fn(&mut Random) -> (Arc, Arc)) {
             row.found[depth as usize] += hits.iter().any(near) as usize;
         }
     }
-    for (where_, row) in ["on the circle", "past it", "short of it"].iter().zip(rows) {
+    for (place, row) in ["on the circle", "past it", "short of it"].iter().zip(rows) {
         let found: String = row.found.iter().map(|n| format!(" {n} |")).collect();
-        println!("| {words} | {where_} | {} |{found}", row.edges);
+        println!("| {words} | {place} | {} |{found}", row.edges);
     }
 }
 
