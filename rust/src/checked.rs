@@ -300,7 +300,8 @@ pub fn intersect_arcs(a: &(impl AsArc + ?Sized), b: &(impl AsArc + ?Sized)) -> R
 }
 
 /// The crossings of two arcs, with `a` searched in 256 times 2^depth cells where an ellipse takes part. A greater depth
-/// sees smaller holes; each depth more takes about twice as long. From depth 1 on an end of `a` that lies on `b` is found too.
+/// sees smaller holes; each depth more takes about twice as long. From depth 1 on the end of `a` is found too where it
+/// lies exactly on `b`.
 ///
 /// ```
 /// use arcs::{checked, vect2d, Arc};

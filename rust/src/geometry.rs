@@ -192,7 +192,7 @@ pub fn intersect_segment_arc(p1: vect2d, p2: vect2d, arc: &(impl AsArc + ?Sized)
 }
 
 /// The crossings of two arcs. Two circles are solved; where an ellipse takes part, `a` is searched in 256 cells, and a small
-/// hole, or an end of `a` that lies on `b`, can be missed: [`checked::intersect_arcs_at`] searches finer.
+/// hole, or the end of `a` where it lies on `b`, can be missed: [`checked::intersect_arcs_at`] searches finer.
 #[inline]
 #[must_use]
 #[track_caller]
