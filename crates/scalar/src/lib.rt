@@ -1,5 +1,7 @@
 // Absolute value, minimum, maximum and clamp by document 01's rules for zeros and NaN, the constants of
 // angles, and bit patterns with the one NaN.
+#![tactic(auto)]
+
 ghost use Rattle.std.specs.Prelude.{◌≡◌};
 ghost use Rattle.std.specs.Float.{nan, binary64};
 ghost use Rattle.std.specs.Float.Ieee.{to_bits, of_bits};

@@ -1,0 +1,2 @@
+-- What the crates above share of a position.
+pub mod At

@@ -1,0 +1,2 @@
+-- Laws of lent rooms.
+pub mod Laws
