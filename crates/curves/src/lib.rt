@@ -1,4 +1,6 @@
 // What the calls are about: positions, arcs, effective radii, and curves of either kind.
+#![tactic(auto)]
+
 #[derive(Drop)]
 pub struct Point {
     pub x: f64,

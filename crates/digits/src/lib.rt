@@ -1,4 +1,6 @@
 // Digits of numbers as bytes: written to lent memory, and the value of one that is read.
+#![tactic(auto)]
+
 ghost use Rattle.std.specs.Prelude.{◌≡◌, ◌+◌, ◌<◌, ◌≤◌, length};
 ghost use Rattle.digits.specs.Hex.{hex_digit, hex, hex_value};
 ghost use Rattle.digits.specs.Decimal.{decimal};

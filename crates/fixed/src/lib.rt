@@ -1,4 +1,6 @@
 // What the fixed-point rules of the sine and of the arctangent share.
+#![tactic(auto)]
+
 ghost use Rattle.std.specs.Prelude.{◌≡◌, cond, ◌≤◌, ◌^◌};
 ghost use Rattle.fixed.specs.High.{high};
 ghost use Rattle.fixed.specs.Size.{size_of};

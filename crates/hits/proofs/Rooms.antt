@@ -12,8 +12,8 @@ use lib.ListN.{length, get_or, take, drop, set}
 use lib.Seq.{drop-cons}
 use lib.Ieee.{Float, nan}
 use lib.Ieee.Bits.{is_true, is_false}
-use Rattle.rooms.specs.Laid.{flat, laid}
-use Rattle.rooms.proofs.Laws.{placed-length, stored-placed, laid_none, laid_more, laid-length, laid_read}
+use Rattle.rooms.specs.Laid.{laid}
+use Rattle.rooms.proofs.Laws.{placed-length, stored-placed, laid_none, laid_more, laid_read}
 use Rattle.hits.specs.declared.CurveHit.{CurveHit}
 use Rattle.hits.specs.Hit.{hit_size, numbers, written, put, hit_at, hit_part}
 

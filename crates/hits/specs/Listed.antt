@@ -1,6 +1,6 @@
 -- 01, 'What must change shape': "`Vec<CurveHit>` and `vec!` of roots or candidates: lent f64 room, or two places and a count." What the two places hold, as the list that the Rust
 -- gives back.
-use Rattle.std.specs.Prelude.{List, [], ◌∷◌, ◌++◌}
+use Rattle.std.specs.Prelude.{List, [], ◌∷◌}
 use Rattle.hits.specs.declared.CurveHit.{CurveHit}
 use Rattle.hits.specs.declared.Crossing.{Crossing}
 use Rattle.hits.specs.declared.Crossing.TheVariants.{At, Miss}

@@ -1,4 +1,6 @@
 // Crossings of two curves, and the lent room that they are written to.
+#![tactic(auto)]
+
 ghost use Rattle.std.specs.Prelude.{◌≡◌, ◌<◌, ◌≤◌, ◌/◌, length};
 ghost use Rattle.hits.specs.Hit.{hit_size, hit_of, put, hit_at, written, hit_part};
 ghost use Rattle.hits.specs.Need.{short};

@@ -1,4 +1,6 @@
 // What distances, constructions and the fit give back: the records alone.
+#![tactic(auto)]
+
 use curves::Point;
 
 // A distance and the point of the curve that has it.
