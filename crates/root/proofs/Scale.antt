@@ -5,7 +5,7 @@ use Prim.Native.Nat.{ℕ, zero, suc, ◌+◌, ◌-◌, ◌*◌, ◌/◌, ◌%◌
 use native.Mathlib.Nat.{mul-div_cancel, mul_assoc, mul-pos, zero-mul, lt_irrefl}
 use native.Mathlib.Omega.{arith}
 use lib.Pow.{pow-add, pow_pos}
-use lib.Ieee.{Float, fin, binary64, units, up, down}
+use lib.Ieee.{inf, nan, Float, fin, binary64, units, up, down}
 use lib.Ieee.Exact.{HasValue}
 use lib.Ieee.Fits.{down_pos}
 use Rattle.root.specs.WholeRoot.{nearest_root}
@@ -16,6 +16,8 @@ use Rattle.laws.proofs.Powers.{size_shifted, four-pow}
 
 pub root_of-value : (x : Float) (m : ℕ) → 0 < m → HasValue x false m (2 ^ 2148) → square_root x ≡ root_units m
 unfolding square_root
+root_of-value nan m p v = elim v [ ]
+root_of-value (inf _) m p v = elim v [ ]
 root_of-value (fin true n e) m p v = absurd (true≢false v.0)
 root_of-value (fin false zero e) m p v = absurd (lt_irrefl 0 (subst (λ (x : ℕ). 0 < x) (sym v.1 ∙ ap (λ (x : ℕ). x * 2 ^ 2148) (zero-mul (up e))) (mul-pos p (down_pos e))))
 root_of-value (fin false (suc n) e) m p v = ap root_units (ap (λ (x : ℕ). x / down e) v.1 ∙ mul-div_cancel m (down_pos e))

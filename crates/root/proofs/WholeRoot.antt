@@ -2,7 +2,7 @@
 use mathlib.Core.Path.{◌≡◌, sym, subst}
 use mathlib.Core.Bool.{Bool, true, false, not, cond}
 use Prim.Native.Nat.{ℕ, zero, suc, ◌+◌, ◌-◌, ◌*◌, ◌/◌, ◌^◌, ◌≤◌, ◌<◌, compare, Ordering}
-use native.Mathlib.Nat.{pow-succ', le_antisymm, le_trans, le_dest, le_of_lt, lt_of_not-le, le_of_suc-le-suc}
+use native.Mathlib.Nat.{pow-succ', le_antisymm, le_trans, le_dest, lt_of_not-le, le_of_suc-le-suc}
 use native.Mathlib.Omega.{arith}
 use lib.Dec.{T, is_le, compare_is_eq, leb, eqb, leb→le, nleb→lt, eqb→eq, eqb_refl, lit<}
 use lib.Arith.{lt_of_le-ne}

@@ -1,4 +1,6 @@
 // Square root of an f64, as IEEE 754 has it, worked out with whole numbers.
+#![tactic(auto)]
+
 ghost use Rattle.std.specs.Prelude.{◌≡◌};
 ghost use Rattle.root.specs.SquareRoot.{square_root};
 ghost use Rattle.root.specs.Norm.{norm};

@@ -1,4 +1,6 @@
 // The sine and the cosine, total on every f64, by the fixed-point rule of specs/.
+#![tactic(auto)]
+
 mod angle;
 mod steps;
 

@@ -1,6 +1,6 @@
 -- The first 22 terms of Taylor's series of the sine and of the cosine, times 43!, as polynomials of the angle. The terms that are
 -- added and those that are taken away are two lists.
-use Rattle.std.specs.Prelude.{List, [], ◌∷◌, ℕ, zero, suc, ◌*◌, ◌/◌}
+use Rattle.std.specs.Prelude.{List, [], ◌∷◌, ℕ, zero, suc, ◌/◌}
 use Rattle.series.specs.Factorial.{factorial}
 
 -- 43! / k!, 43! / (k + 1)!, ..: n numbers
