@@ -68,15 +68,15 @@ annex_f = record {
   corner_left = λ s. refl;
   corner_right = λ s. refl;
   nan_y = λ x. refl;
-  nan_x = nan-x;
+  nan_x = only-nan;
 }
   where
     plus : (s : Bool) → signed s zero ≡ zero_of s
     plus true = refl
     plus false = refl
 
-    nan_x : (y : Float) → arctangent y nan ≡ nan
-    nan-x nan = refl
-    nan-x (inf s) = refl
-    nan-x (fin s nought e) = refl
-    nan-x (fin s (suc m) e) = refl
+    only-nan : (y : Float) → arctangent y nan ≡ nan
+    only-nan nan = refl
+    only-nan (inf s) = refl
+    only-nan (fin s nought e) = refl
+    only-nan (fin s (suc m) e) = refl

@@ -1,4 +1,5 @@
 // The arctangent of two numbers, by a table of its series at the thirty-seconds from 0 to 1: the rule of specs/Rule.antt.
+#![tactic(auto)]
 
 mod horner;
 mod table;

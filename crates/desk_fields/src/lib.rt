@@ -1,4 +1,6 @@
 // The fields of a line, read one by one.
+#![tactic(auto)]
+
 pub mod bytes;
 pub mod fields;
 

@@ -1,4 +1,6 @@
 // The lines of an input whose bytes come in pieces of any size: the bytes of the line at hand stand at the start of a buffer.
+#![tactic(auto)]
+
 ghost use Rattle.std.specs.Prelude.{◌≡◌, [], ◌∷◌, ◌++◌, min, ltb, length, take};
 ghost use Rattle.desk_lines.specs.Hand.{most, kept, Holds, Takes};
 

@@ -1,4 +1,6 @@
 // Lines of output, written to lent memory.
+#![tactic(auto)]
+
 ghost use Rattle.std.specs.Prelude.{[], ◌∷◌, ◌+◌, ◌<◌, ◌≤◌, length};
 ghost use Rattle.digits.specs.Spliced.{Put};
 ghost use Rattle.desk_print.specs.Printed.{longest_numbers, longest_hit_line, count, number, head, numbers, refused_line, hit_line, end_line};

@@ -1,4 +1,6 @@
 // Segments and lines (000): distance, projection and crossings, operation by operation.
+#![tactic(auto)]
+
 ghost use Rattle.std.specs.Prelude.{◌≡◌};
 ghost use Rattle.segments.specs.Project.{distance, along, point_to_segment_dist, project_onto_segment};
 ghost use Rattle.segments.specs.Lines.{line_line_intersection};

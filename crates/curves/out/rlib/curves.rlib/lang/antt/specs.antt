@@ -1,2 +1,0 @@
--- What the crates above share of a position.
-pub mod At

@@ -1,0 +1,18 @@
+-- `refused_line` meets its contract. Each part has a longest length, so that the next begins within the room.
+use native.Mathlib.Omega.{arith}
+use Rattle.digits.proofs.Spliced.{put_then}
+use Rattle.desk_print.specs.Printed.{refused_line}
+use Rattle.desk_print.proofs.Lines.{within, head-length, count-length}
+use Rattle.desk_print.proofs.refused_line.Goals as goal
+
+pub put_count-after_refusal-requires : goal.put_count-after_refusal-requires
+put_count-after_refusal-requires c = omega (arith, within c.put_head-after_head.ensures (head-length _ _))
+
+pub put_byte-requires : goal.put_byte-requires
+put_byte-requires c =
+    omega (arith, within c.put_count-after_refusal.ensures (count-length _), within c.put_head-after_head.ensures (head-length _ _))
+
+pub returns : goal.returns
+unfolding refused_line
+returns c =
+    put_then (put_then c.put_head-after_head.ensures (omega arith) c.put_count-after_refusal.ensures) (omega arith) c.put_byte.ensures

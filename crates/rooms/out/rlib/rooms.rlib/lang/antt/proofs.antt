@@ -1,2 +1,0 @@
--- Laws of lent rooms.
-pub mod Laws
