@@ -11,7 +11,7 @@ pub use span::{
 };
 
 // Where an angle lies in an arc's span.
-#[derive(Drop)]
+#[derive(Clone, Copy)]
 pub enum InSpan {
     At(f64),
     Outside,

@@ -32,7 +32,7 @@ pub const TABLE_FULL: u8 = 9;
 pub const DEEPEST: u32 = 3;
 
 // What the numbers tested so far have shown.
-#[derive(Drop)]
+#[derive(Clone, Copy)]
 pub struct Faults {
     pub unreal: bool,
     pub beyond: bool,
@@ -144,28 +144,28 @@ pub fn or_later(earlier: u8, later: u8) -> u8
     earlier
 }
 
-#[derive(Drop)]
+#[derive(Clone, Copy)]
 pub enum Number {
     Is(f64),
     Refused(u8),
 }
 
 // A position, a direction or two radii.
-#[derive(Drop)]
+#[derive(Clone, Copy)]
 pub enum Pair {
     Are(f64, f64),
     Refused(u8),
 }
 
 // How many hits were written to the room.
-#[derive(Drop)]
+#[derive(Clone, Copy)]
 pub enum Found {
     Hits(usize),
     Refused(u8),
 }
 
 // What was written to the room, with what the hunt counted; all but the hits are 0 where nothing is sampled.
-#[derive(Drop)]
+#[derive(Clone, Copy)]
 pub enum Hunted {
     Counts(Tally),
     Refused(u8),

@@ -1,14 +1,14 @@
 // What the calls are about: positions, arcs, effective radii, and curves of either kind.
 #![tactic(auto)]
 
-#[derive(Drop)]
+#[derive(Clone, Copy)]
 pub struct Point {
     pub x: f64,
     pub y: f64,
 }
 
 // A circular arc or an ellipse's, whole where `closed`. `ccw` is its direction from start to end.
-#[derive(Drop)]
+#[derive(Clone, Copy)]
 pub struct Arc {
     pub center: Point,
     pub radius: f64,
@@ -22,14 +22,14 @@ pub struct Arc {
 }
 
 // Effective radii.
-#[derive(Drop)]
+#[derive(Clone, Copy)]
 pub struct Radii {
     pub a: f64,
     pub b: f64,
 }
 
 // A segment's two ends, or an arc.
-#[derive(Drop)]
+#[derive(Clone, Copy)]
 pub enum Curve {
     Segment(f64, f64, f64, f64),
     Arc(Arc),

@@ -12,13 +12,13 @@ use curves::Point;
 pub const HIT: usize = 4;
 
 // How long the rooms are that a caller lends.
-#[derive(Drop)]
+#[derive(Clone, Copy)]
 pub struct Lengths {
     pub room: usize,
 }
 
 // One crossing: the parameter on each curve, and the position.
-#[derive(Drop)]
+#[derive(Clone, Copy)]
 pub struct CurveHit {
     pub t_a: f64,
     pub t_b: f64,
@@ -26,7 +26,7 @@ pub struct CurveHit {
 }
 
 // What a hunt counts. The four fates, hits among them, add up to the brackets.
-#[derive(Drop)]
+#[derive(Clone, Copy)]
 pub struct Tally {
     pub hits: usize,
     pub brackets: u32,
@@ -37,14 +37,14 @@ pub struct Tally {
 }
 
 // A candidate that the tests have kept or dropped.
-#[derive(Drop)]
+#[derive(Clone, Copy)]
 pub enum Crossing {
     At(CurveHit),
     Miss,
 }
 
 // The crossings that a closed form finds, in order.
-#[derive(Drop)]
+#[derive(Clone, Copy)]
 pub enum Crossings {
     None,
     One(CurveHit),

@@ -10,7 +10,7 @@ use sine::SinCos;
 pub use values::{framed, value};
 
 // The two arcs with what one evaluation needs of them, worked out once: the sine and the cosine of both rotations, b's effective radii.
-#[derive(Drop)]
+#[derive(Clone, Copy)]
 pub struct Frame {
     pub a: Arc,
     pub b: Arc,
@@ -20,7 +20,7 @@ pub struct Frame {
 }
 
 // A cell of a's span: its two angles, the values there, and whether it closes the span, so that a zero at its end counts too.
-#[derive(Drop)]
+#[derive(Clone, Copy)]
 pub struct Cell {
     pub lo: f64,
     pub hi: f64,
@@ -30,7 +30,7 @@ pub struct Cell {
 }
 
 // A bracket that is being narrowed: its two angles and the value at the first.
-#[derive(Drop)]
+#[derive(Clone, Copy)]
 pub struct Stretch {
     pub lo: f64,
     pub hi: f64,
@@ -38,7 +38,7 @@ pub struct Stretch {
 }
 
 // What becomes of a bracket.
-#[derive(Drop)]
+#[derive(Clone, Copy)]
 pub enum Fate {
     OutsideA,
     OutsideB,

@@ -1,5 +1,5 @@
 -- 000, `line_line_intersection`: "Intersection of two infinite lines (p1-p2 and p3-p4). Returns midpoint of closest approach if nearly parallel." Operation by operation.
-use Rattle.std.specs.Prelude.{cond, Float}
+use Rattle.std.specs.Prelude.{cond}
 use Rattle.std.specs.Float.Ieee.{lt}
 use Rattle.laws.specs.Rounded.{◌⊕◌, ◌⊖◌, ◌⊗◌, ◌⊘◌}
 use Rattle.laws.specs.Literal.{two, ten⁻¹²}

@@ -4,14 +4,14 @@
 use curves::Point;
 
 // A distance and the point of the curve that has it.
-#[derive(Drop)]
+#[derive(Clone, Copy)]
 pub struct Near {
     pub dist: f64,
     pub pos: Point,
 }
 
 // An arc's center, its ends as angles, and its radii, which are larger than the given ones where those do not reach.
-#[derive(Drop)]
+#[derive(Clone, Copy)]
 pub struct Converted {
     pub center: Point,
     pub start: f64,
@@ -20,14 +20,14 @@ pub struct Converted {
     pub ry: f64,
 }
 
-#[derive(Drop)]
+#[derive(Clone, Copy)]
 pub enum Conversion {
     Is(Converted),
     Degenerate,
 }
 
 // The arc from the first point to the second by way of the third.
-#[derive(Drop)]
+#[derive(Clone, Copy)]
 pub struct Circumscribed {
     pub center: Point,
     pub radius: f64,
@@ -36,25 +36,25 @@ pub struct Circumscribed {
     pub ccw: bool,
 }
 
-#[derive(Drop)]
+#[derive(Clone, Copy)]
 pub enum ThreePoint {
     Is(Circumscribed),
     Degenerate,
 }
 
-#[derive(Drop)]
+#[derive(Clone, Copy)]
 pub struct Circle {
     pub center: Point,
     pub radius: f64,
 }
 
-#[derive(Drop)]
+#[derive(Clone, Copy)]
 pub enum TangentCircle {
     Is(Circle),
     Degenerate,
 }
 
-#[derive(Drop)]
+#[derive(Clone, Copy)]
 pub struct Fitted {
     pub center: Point,
     pub rx: f64,
@@ -66,7 +66,7 @@ pub struct Fitted {
 }
 
 // Degenerate is 001's `None`.
-#[derive(Drop)]
+#[derive(Clone, Copy)]
 pub enum Fit {
     Is(Fitted),
     Degenerate,

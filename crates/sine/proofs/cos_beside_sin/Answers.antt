@@ -1,5 +1,5 @@
 -- `sine::cos_beside_sin` meets its contract.
-use Rattle.std.proofs.Common.{◌≡◌, ℕ, zero, suc, List, [], ◌∷◌, set, refl, ap, ◌∙◌, arith, rules}
+use Rattle.std.proofs.Common.{◌≡◌, ℕ, zero, suc, List, [], ◌∷◌, set, refl, ap, ◌∙◌, arith}
 use lib.Ieee.{Float}
 use Rattle.sine.proofs.Cases.{sine-turned, sine_remainder, cosine-turned, cosine-one}
 use Rattle.sine.proofs.cos_beside_sin.Goals as goal

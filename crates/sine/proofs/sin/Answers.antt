@@ -1,5 +1,5 @@
 -- `sine::sin` meets its contract.
-use Rattle.std.proofs.Common.{refl, rules}
+use Rattle.std.proofs.Common.{refl}
 use Rattle.sine.proofs.sin.Goals as goal
 
 pub returns : goal.returns

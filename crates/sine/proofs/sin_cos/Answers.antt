@@ -1,5 +1,5 @@
 -- `sine::sin_cos` meets its contract.
-use Rattle.std.proofs.Common.{refl, rules}
+use Rattle.std.proofs.Common.{refl}
 use Rattle.sine.proofs.sin_cos.Goals as goal
 
 pub returns : goal.returns

@@ -1,5 +1,5 @@
 -- `sine::angle::angle` meets its contract: each way gives the whole part of the remainder's size.
-use Rattle.std.proofs.Common.{◌≡◌, ℕ, ◌*◌, ◌^◌, ◌<◌, ◌≤◌, true, T, sym, refl, ◌∙◌, subst, arith, rules}
+use Rattle.std.proofs.Common.{◌≡◌, ℕ, ◌*◌, ◌^◌, ◌<◌, ◌≤◌, true, T, sym, refl, ◌∙◌, subst, arith}
 use lib.Count.{count_trailing_zeros}
 use lib.Ieee.{Float, binary64, fits, rem, lt, of_bits, of_fields, odd, to_bits}
 use Rattle.laws.specs.Size.{abs}
@@ -56,7 +56,8 @@ truncating_f64_to_u64-requires c =
     let held : T (fits binary64 (abs c.args.x)) = abs-fits c.args.x (subst T (sym c.well_formed.0.1) tt) in
     let x = c.args.x in
     let e = c.abs-a.ensures ∙ sym (size_abs x) in
-    rw e (turn_may_cut (abs x) held (rw e at c.if-a.true))
+    let cut = turn_may_cut (abs x) held (rw e at c.if-a.true) in
+    rw e (record { lower_bound = cut.0; upper_bound = cut.1 })
 
 pub returns-then-a : goal.returns-then-a
 unfolding tau units
@@ -90,7 +91,8 @@ pub truncating_f64_to_u64-requires-then-r : goal.truncating_f64_to_u64-requires-
 unfolding tau of_bits of_fields odd count_trailing_zeros
 truncating_f64_to_u64-requires-then-r c =
     let x = c.args.x in
-    rw c.size.ensures (far_may_cut x c.if-r.true)
+    let cut = far_may_cut x c.if-r.true in
+    rw c.size.ensures (record { lower_bound = cut.0; upper_bound = cut.1 })
 
 pub returns-then-r : goal.returns-then-r
 unfolding tau units
