@@ -1,4 +1,6 @@
 // The arc record, its points and tangents (002) and its span (000).
+#![tactic(auto)]
+
 mod ellipse;
 mod span;
 

@@ -1,4 +1,5 @@
 // The arccosine of a number.
+#![tactic(auto)]
 
 ghost use Rattle.std.specs.Prelude.{◌≡◌};
 ghost use Rattle.arccos.specs.Arccos.{in_range, arccosine};

@@ -4,7 +4,7 @@ ghost use Rattle.std.specs.Prelude.{◌≡◌};
 ghost use Rattle.arctan.specs.Rows.{row_at};
 
 // The coefficients of the arctangent's series at j / 32, in units of 2^-61; from a2 on with 2 added.
-#[derive(Drop)]
+#[derive(Clone, Copy)]
 pub struct Row {
     pub a0: u64,
     pub a1: u64,

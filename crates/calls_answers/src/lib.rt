@@ -9,35 +9,35 @@ use shapes::{
 };
 
 // A distance and the point of the curve that has it.
-#[derive(Drop)]
+#[derive(Clone, Copy)]
 pub enum Distance {
     Is(Near),
     Refused(u8),
 }
 
 // An SVG arc about its center.
-#[derive(Drop)]
+#[derive(Clone, Copy)]
 pub enum Center {
     Is(Converted),
     Refused(u8),
 }
 
 // The arc through three points.
-#[derive(Drop)]
+#[derive(Clone, Copy)]
 pub enum Through {
     Is(Circumscribed),
     Refused(u8),
 }
 
 // The circle with a tangent.
-#[derive(Drop)]
+#[derive(Clone, Copy)]
 pub enum Tangent {
     Is(Circle),
     Refused(u8),
 }
 
 // The arc of an ellipse that fits.
-#[derive(Drop)]
+#[derive(Clone, Copy)]
 pub enum FittedArc {
     Is(Fitted),
     Refused(u8),

@@ -5,13 +5,13 @@ ghost use Rattle.conics.specs.Axes.{determinant, center_of, eigenvalues, either_
 use crate::conic::Conic;
 use curves::Point;
 
-#[derive(Drop)]
+#[derive(Clone, Copy)]
 pub struct Eigen {
     pub ev1: f64,
     pub ev2: f64,
 }
 
-#[derive(Drop)]
+#[derive(Clone, Copy)]
 pub struct Squares {
     pub rx_sq: f64,
     pub ry_sq: f64,

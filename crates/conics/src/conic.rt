@@ -6,7 +6,7 @@ use crate::lines;
 use curves::Point;
 
 // Entries 00, 01, 11, 02, 12, 22. The other three are never read.
-#[derive(Drop)]
+#[derive(Clone, Copy)]
 pub struct Conic {
     pub a: f64,
     pub b: f64,

@@ -1,4 +1,6 @@
 // Crossings in closed form (000): a segment with an arc, and two circles.
+#![tactic(auto)]
+
 mod circles;
 mod segment;
 

@@ -7,7 +7,7 @@ use curves::{Arc, Point};
 use hits::{Crossing, Crossings};
 
 // The roots of the quadratic, the smaller first.
-#[derive(Drop)]
+#[derive(Clone, Copy)]
 pub enum Roots {
     None,
     One(f64),

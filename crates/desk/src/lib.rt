@@ -20,20 +20,20 @@ pub const ROOM_NEED: usize = HIT * 2048;
 pub const OUT_NEED: usize = 262144;
 
 // A place of the table.
-#[derive(Drop)]
+#[derive(Clone, Copy)]
 pub struct Place {
     pub curve: Curve,
 }
 
 // The records taken so far stand in the first `count` places.
-#[derive(Drop)]
+#[derive(Clone, Copy)]
 pub struct Table {
     pub places: [Place; MOST],
     pub count: usize,
 }
 
 // The table after a line, how many bytes are to be printed, and whether the room or the buffer was too short to do anything.
-#[derive(Drop)]
+#[derive(Clone, Copy)]
 pub struct Answered {
     pub table: Table,
     pub printed: usize,

@@ -7,7 +7,7 @@ ghost use Rattle.desk_fields.specs.Fields.{triple_of, four_at, three_at, marks_a
 use crate::{Field, Four, Marks, Numbered, Three, bytes};
 
 // What three fields hold.
-#[derive(Drop)]
+#[derive(Clone, Copy)]
 enum Triple {
     Of(u64, u64, u64),
     None,

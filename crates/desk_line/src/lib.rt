@@ -1,4 +1,6 @@
 // One line of input, read.
+#![tactic(auto)]
+
 ghost use Rattle.std.specs.Prelude.{◌≡◌, ◌≤◌, length};
 ghost use Rattle.desk_fields.specs.Field.{digit_at};
 ghost use Rattle.desk_line.specs.Read.{segment, arc_of, arc, query_end, query, read_line};
@@ -7,7 +9,7 @@ use curves::{Arc, Point};
 use desk_fields::{Field, Four, Marks, Numbered, Three, bytes, fields};
 
 // A line that is taken by its form. A record number above 64, however many digits it has, is held as 65.
-#[derive(Drop)]
+#[derive(Clone, Copy)]
 pub enum Line {
     Segment(f64, f64, f64, f64),
     Arc(Arc),

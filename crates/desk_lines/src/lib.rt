@@ -8,7 +8,7 @@ ghost use Rattle.desk_lines.specs.Hand.{most, kept, Holds, Takes};
 pub const KEPT: usize = 257;
 
 // Up to where a piece is read, how many bytes of the line at hand are kept then, and whether a newline ended it.
-#[derive(Drop)]
+#[derive(Clone, Copy)]
 pub struct Taken {
     pub read: usize,
     pub kept: usize,

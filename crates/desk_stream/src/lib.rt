@@ -11,7 +11,7 @@ use desk_line::Line;
 use desk_lines::KEPT;
 
 // The table, the number of the line at hand, and how many of its bytes are kept.
-#[derive(Drop)]
+#[derive(Clone, Copy)]
 pub struct Stream {
     pub table: Table,
     pub number: u64,
@@ -19,7 +19,7 @@ pub struct Stream {
 }
 
 // What is known after a step, up to where the piece is read, and how many bytes are to be printed.
-#[derive(Drop)]
+#[derive(Clone, Copy)]
 pub struct Progress {
     pub stream: Stream,
     pub read: usize,

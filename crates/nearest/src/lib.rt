@@ -1,4 +1,6 @@
 // The point of an arc that is nearest to a point (000): its distance and its parameter.
+#![tactic(auto)]
+
 mod circle;
 mod distance;
 mod ellipse;

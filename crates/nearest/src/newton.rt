@@ -11,7 +11,7 @@ use sine::SinCos;
 const DT: f64 = 1e-6;
 
 // 000's f and df at one angle.
-#[derive(Drop)]
+#[derive(Clone, Copy)]
 pub struct Slopes {
     pub f: f64,
     pub df: f64,

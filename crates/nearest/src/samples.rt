@@ -11,7 +11,7 @@ use sine::SinCos;
 const LARGEST: f64 = 1.7976931348623157e308;
 
 // The best angle so far and its point's squared distance.
-#[derive(Drop)]
+#[derive(Clone, Copy)]
 pub struct Best {
     pub t: f64,
     pub d: f64,

@@ -7,7 +7,7 @@ use crate::points;
 use curves::{Arc, Point};
 use sine::SinCos;
 
-#[derive(Drop)]
+#[derive(Clone, Copy)]
 pub struct Stretch {
     pub lo: f64,
     pub hi: f64,

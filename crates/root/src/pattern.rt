@@ -7,7 +7,7 @@ use crate::{newton, whole};
 // A number by its 53 digits, and how many places they stand above 2^-2148, the square of the
 // smallest number. `like` is the pattern of a normal number with these digits, at a place as even or
 // odd, so that its root has the same digits.
-#[derive(Drop)]
+#[derive(Clone, Copy)]
 struct Number {
     digits: u64,
     scale: u64,

@@ -5,7 +5,7 @@ ghost use Rattle.root.specs.Steps.{Nearest, Turned};
 
 // The state of a root by digits. Of the digits of the number taken so far `root` is the whole part of
 // the root, and `rest` what they are above its square. `word` has the digits to come, the highest first.
-#[derive(Drop)]
+#[derive(Clone, Copy)]
 struct Digits {
     root: u64,
     rest: u64,

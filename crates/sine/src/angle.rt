@@ -44,7 +44,7 @@ pub fn angle(x: f64) -> u64
 }
 
 // An angle's nearest node, as its row of the table, whether the angle lies below it, and one less the cosine and the sine of the rest.
-#[derive(Drop)]
+#[derive(Clone, Copy)]
 pub struct Place {
     pub node_sine: u64,
     pub node_cosine: u64,

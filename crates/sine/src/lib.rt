@@ -18,14 +18,14 @@ const SINE_SMALL: u64 = 34359738368;
 const COSINE_SMALL: u64 = 17179869184;
 
 // The sine and the cosine of one angle.
-#[derive(Drop)]
+#[derive(Clone, Copy)]
 pub struct SinCos {
     pub sin: f64,
     pub cos: f64,
 }
 
 // 3 more than the sine and the cosine of an angle, at 2^53.
-#[derive(Drop)]
+#[derive(Clone, Copy)]
 struct Units {
     sine: u64,
     cosine: u64,

@@ -1,5 +1,5 @@
 -- The sign: x has the remainder's sign, and the rule's float changes its own with it.
-use mathlib.Core.Path.{◌≡◌, refl, sym, ◌∙◌, ap}
+use mathlib.Core.Path.{◌≡◌, refl, sym, ap}
 use mathlib.Core.Bool.{Bool, true, false, not}
 use Prim.Native.Nat.{ℕ, ◌+◌, ◌*◌, ◌%◌, ◌≤◌, ◌^◌}
 use native.Mathlib.Nat.{zero-mul, mul-pos, zero-mod}
