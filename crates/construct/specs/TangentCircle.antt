@@ -1,6 +1,6 @@
 -- 000, `circle_tangent_through`: "The circle through `s` and `e` whose tangent at `s` is `t` (direction, either sign): center and radius. None when `e` lies on that tangent line
 -- (no such circle) or the points coincide." Operation by operation.
-use Rattle.std.specs.Prelude.{cond, Float}
+use Rattle.std.specs.Prelude.{cond}
 use Rattle.std.specs.Float.Ieee.{lt, neg}
 use Rattle.laws.specs.Rounded.{◌⊕◌, ◌⊖◌, ◌⊗◌, ◌⊘◌}
 use Rattle.laws.specs.Literal.{two, ten⁻¹²}

@@ -1,4 +1,6 @@
 // Arcs and circles from points (000): the conversion of an SVG arc, the arc through three points, and the circle with a tangent.
+#![tactic(auto)]
+
 mod center;
 mod svg;
 mod tangent;

@@ -1,4 +1,6 @@
 // One bracket of the hunt: the value at an angle, the narrowing to one angle, and what becomes of it.
+#![tactic(auto)]
+
 pub mod fates;
 mod narrowing;
 mod values;
