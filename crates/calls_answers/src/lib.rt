@@ -1,4 +1,6 @@
 // What the calls of parts 7 to 9 answer: what a layer found, or a refusal. specs/Shape.antt says the number and the values of each case.
+#![tactic(auto)]
+
 ghost use Rattle.std.specs.Prelude.{◌≡◌};
 ghost use Rattle.checks.specs.Answer.{withheld};
 ghost use Rattle.calls_answers.specs.Shape.{near_told, distance_told, conversion_told, center_told, three_point_told, through_told, tangent_circle_told, tangent_told, fit_told, fitted_told};

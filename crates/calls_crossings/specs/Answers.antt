@@ -9,7 +9,7 @@ use Rattle.hits.specs.Listed.{listed, one}
 use Rattle.segments.specs.Segments.{intersect_segments}
 use Rattle.crossing.specs.SegmentArc.{intersect_segment_arc}
 use Rattle.hits.specs.Outcome.{Outcome, tally}
-use Rattle.checks.specs.Given.{Given, point, arcNumbers}
+use Rattle.checks.specs.Given.{Given, point, arc_numbers}
 use Rattle.checks.specs.Refusal.{deep, refusal_of}
 use Rattle.checks.specs.Answer.{tally_counts}
 use Rattle.calls_crossings.specs.Crossed.{HitsAnswer}
@@ -28,7 +28,7 @@ abbrev pub segments_answer : Point → Point → Point → Point → HitsAnswer
 segments_answer a1 a2 b1 b2 = closed_answer (point a1 ++ point a2 ++ point b1 ++ point b2) segments_hits (listed (one (intersect_segments a1 a2 b1 b2)))
 
 abbrev pub segment_arc_answer : Point → Point → Arc → HitsAnswer
-segment_arc_answer p1 p2 a = closed_answer (point p1 ++ point p2 ++ arcNumbers a) closed_hits (listed (intersect_segment_arc p1 p2 a))
+segment_arc_answer p1 p2 a = closed_answer (point p1 ++ point p2 ++ arc_numbers a) closed_hits (listed (intersect_segment_arc p1 p2 a))
 
 abbrev pub arcs_answer : Arc → Arc → ℕ → HitsAnswer
-arcs_answer a b depth = hunt_answer (arcNumbers a ++ arcNumbers b) depth (pair_hits a b depth) (pair_outcome a b depth)
+arcs_answer a b depth = hunt_answer (arc_numbers a ++ arc_numbers b) depth (pair_hits a b depth) (pair_outcome a b depth)

@@ -8,7 +8,7 @@ use Rattle.crossing.specs.SegmentArc.{intersect_segment_arc}
 use Rattle.hits.specs.Outcome.{Outcome}
 use Rattle.curves.specs.declared.Curve.{Curve}
 use Rattle.curves.specs.declared.Curve.TheVariants as curve
-use Rattle.checks.specs.Given.{curveNumbers}
+use Rattle.checks.specs.Given.{curve_numbers}
 use Rattle.calls_crossings.specs.Crossed.{HitsAnswer}
 use Rattle.calls_crossings.specs.Answers.{hunt_answer}
 use Rattle.calls_crossings.specs.Need.{segments_hits, closed_hits, pair_hits}
@@ -29,4 +29,4 @@ curves_outcome (curve.Arc a) (curve.Segment u1 v1 u2 v2) depth = closed (listed 
 curves_outcome (curve.Arc a) (curve.Arc b) depth = pair_outcome a b depth
 
 abbrev pub curves_answer : Curve → Curve → ℕ → HitsAnswer
-curves_answer a b depth = hunt_answer (curveNumbers a ++ curveNumbers b) depth (curves_hits a b depth) (curves_outcome a b depth)
+curves_answer a b depth = hunt_answer (curve_numbers a ++ curve_numbers b) depth (curves_hits a b depth) (curves_outcome a b depth)

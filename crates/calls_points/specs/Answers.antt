@@ -8,7 +8,7 @@ use Rattle.arc.specs.Span.{norm_tau, arc_param_in_span}
 use Rattle.arc.specs.Frame.{arc_radii, arc_theta_of_pos, arc_param_at_point}
 use Rattle.segments.specs.Project.{point_to_segment_dist, project_onto_segment}
 use Rattle.segments.specs.Lines.{line_line_intersection}
-use Rattle.checks.specs.Given.{Given, coordinate, angle, point, arcNumbers}
+use Rattle.checks.specs.Given.{Given, coordinate, angle, point, arc_numbers}
 use Rattle.checks.specs.Refusal.{numbers_refusal, or_later}
 use Rattle.checks.specs.Answer.{Answer, answered}
 use Rattle.calls_points.specs.InSpan.{span_refusal, span_number}
@@ -28,16 +28,16 @@ unfoldable pub ellipse_tangent_answer : Float → Float → Float → Float → 
 ellipse_tangent_answer rx ry rot t = position (coordinate rx ∷ coordinate ry ∷ angle rot ∷ angle t ∷ []) (ellipse_tangent rx ry rot t)
 
 unfoldable pub arc_point_at_answer : Arc → Float → Answer
-arc_point_at_answer a t = position (arcNumbers a ++ angle t ∷ []) (arc_point_at a t)
+arc_point_at_answer a t = position (arc_numbers a ++ angle t ∷ []) (arc_point_at a t)
 
 unfoldable pub arc_tangent_at_answer : Arc → Float → Answer
-arc_tangent_at_answer a t = position (arcNumbers a ++ angle t ∷ []) (arc_tangent_at a t)
+arc_tangent_at_answer a t = position (arc_numbers a ++ angle t ∷ []) (arc_tangent_at a t)
 
 unfoldable pub arc_start_pos_answer : Arc → Answer
-arc_start_pos_answer a = position (arcNumbers a) (arc_start_pos a)
+arc_start_pos_answer a = position (arc_numbers a) (arc_start_pos a)
 
 unfoldable pub arc_end_pos_answer : Arc → Answer
-arc_end_pos_answer a = position (arcNumbers a) (arc_end_pos a)
+arc_end_pos_answer a = position (arc_numbers a) (arc_end_pos a)
 
 -- ---- lines
 unfoldable pub point_to_segment_dist_answer : Point → Point → Point → Answer
@@ -56,13 +56,13 @@ norm_tau_answer v = one_number (angle v ∷ []) (norm_tau v)
 -- outside the span, after the numbers' own refusals
 unfoldable pub arc_param_in_span_answer : Arc → Float → Answer
 arc_param_in_span_answer a theta =
-    answered (or_later (numbers_refusal (arcNumbers a ++ angle theta ∷ [])) (span_refusal (arc_param_in_span a theta))) (span_number (arc_param_in_span a theta) ∷ []) []
+    answered (or_later (numbers_refusal (arc_numbers a ++ angle theta ∷ [])) (span_refusal (arc_param_in_span a theta))) (span_number (arc_param_in_span a theta) ∷ []) []
 
 unfoldable pub arc_radii_answer : Arc → Answer
-arc_radii_answer a = answered (numbers_refusal (arcNumbers a)) ((arc_radii a).a ∷ (arc_radii a).b ∷ []) []
+arc_radii_answer a = answered (numbers_refusal (arc_numbers a)) ((arc_radii a).a ∷ (arc_radii a).b ∷ []) []
 
 unfoldable pub arc_theta_of_pos_answer : Arc → Point → Answer
-arc_theta_of_pos_answer a p = one_number (arcNumbers a ++ point p) (arc_theta_of_pos a p)
+arc_theta_of_pos_answer a p = one_number (arc_numbers a ++ point p) (arc_theta_of_pos a p)
 
 unfoldable pub arc_param_at_point_answer : Arc → Point → Answer
-arc_param_at_point_answer a p = one_number (arcNumbers a ++ point p) (arc_param_at_point a p)
+arc_param_at_point_answer a p = one_number (arc_numbers a ++ point p) (arc_param_at_point a p)

@@ -1,4 +1,6 @@
 // The calls of parts 2 to 4 that give back one number or two: each takes any number, checks its own, and refuses by document 01's number.
+#![tactic(auto)]
+
 mod positions;
 mod spans;
 

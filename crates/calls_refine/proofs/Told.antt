@@ -10,7 +10,7 @@ use Rattle.hits.specs.Need.{lengths, short}
 use Rattle.hits.specs.Outcome.{Outcome, tally}
 use Rattle.hunt.specs.Hunt.{hunted}
 use Rattle.hunt_refine.specs.Limits.{Limited}
-use Rattle.checks.specs.Given.{Given, angle, arcNumbers, tested}
+use Rattle.checks.specs.Given.{Given, angle, arc_numbers, tested}
 use Rattle.checks.specs.Refusal.{accepted, deepest, deep, unfaulted}
 use Rattle.checks.proofs.Tested.{unrefused, not-deep}
 use Rattle.checks.proofs.Within.{given_within}
@@ -23,7 +23,7 @@ use Rattle.calls_refine.specs.Answered.{Answered}
 
 -- the numbers that the call tests; a's start is the sixth and its end the seventh
 abbrev numbers : Arc → Arc → List Given
-numbers a b = arcNumbers a ++ arcNumbers b
+numbers a b = arc_numbers a ++ arc_numbers b
 
 start_given : (a b : Arc) → Memᴰ (angle a.start) (numbers a b)
 start_given a b = Memᴰ.tail (Memᴰ.tail (Memᴰ.tail (Memᴰ.tail (Memᴰ.tail (Memᴰ.head refl)))))

@@ -8,7 +8,7 @@ use Rattle.construct.specs.Conversion.{svg_arc_to_center}
 use Rattle.construct.specs.Circumscribed.{circumscribed_arc}
 use Rattle.construct.specs.TangentCircle.{circle_tangent_through}
 use Rattle.earc_fit.specs.Fit.{fit_earc_tangent}
-use Rattle.checks.specs.Given.{Given, coordinate, angle, point, arcNumbers}
+use Rattle.checks.specs.Given.{Given, coordinate, angle, point, arc_numbers}
 use Rattle.checks.specs.Refusal.{numbers_refusal}
 use Rattle.checks.specs.Answer.{Answer, answered, withheld}
 use Rattle.calls_answers.specs.Shape.{near_told, conversion_told, three_point_told, tangent_circle_told, fit_told}
@@ -19,10 +19,10 @@ found gs told = withheld (numbers_refusal gs) told
 
 -- ---- distances and nearest parameters
 unfoldable pub point_to_arc_dist_answer : Point → Arc → Answer
-point_to_arc_dist_answer p a = found (point p ++ arcNumbers a) (near_told (point_to_arc_dist p a))
+point_to_arc_dist_answer p a = found (point p ++ arc_numbers a) (near_told (point_to_arc_dist p a))
 
 unfoldable pub nearest_arc_param_answer : Arc → Point → Answer
-nearest_arc_param_answer a p = answered (numbers_refusal (arcNumbers a ++ point p)) (nearest_arc_param a p ∷ []) []
+nearest_arc_param_answer a p = answered (numbers_refusal (arc_numbers a ++ point p)) (nearest_arc_param a p ∷ []) []
 
 -- ---- arcs and circles from points
 unfoldable pub svg_arc_to_center_answer : Point → Point → Float → Float → Float → Bool → Bool → Answer

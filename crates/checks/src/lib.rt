@@ -1,8 +1,10 @@
 // The checks of a call, in 01's order: 1 over all its numbers, then 2, 3, 4, then the rest; and what the calls answer. specs/Answer.antt says the number and the values of each answer.
+#![tactic(auto)]
+
 ghost use Rattle.std.specs.Prelude.{◌≡◌, [], ◌∷◌, false, not};
 ghost use Rattle.std.specs.Float.{inf};
 ghost use Rattle.std.specs.Float.Ieee.{lt};
-ghost use Rattle.checks.specs.Given.{coordinate, angle, tested, point, arcNumbers, curveNumbers};
+ghost use Rattle.checks.specs.Given.{coordinate, angle, tested, point, arc_numbers, curve_numbers};
 ghost use Rattle.checks.specs.Refusal.{deep, refusal, unfaulted, or_later};
 ghost use Rattle.checks.specs.Answer.{answered, number_told, pair_told};
 
@@ -89,7 +91,7 @@ pub fn point(f: Faults, p: Point) -> Faults
 
 // All seven numbers, whatever the marks.
 pub fn arc(f: Faults, a: Arc) -> Faults
-    ensures { result ≡ tested f (arcNumbers a) }
+    ensures { result ≡ tested f (arc_numbers a) }
 {
     let c = a.center;
     let radii = coordinate(coordinate(point(f, c), a.radius), a.radius_b);
@@ -98,7 +100,7 @@ pub fn arc(f: Faults, a: Arc) -> Faults
 
 // The numbers of a segment's ends or of an arc.
 pub fn curve(f: Faults, c: Curve) -> Faults
-    ensures { result ≡ tested f (curveNumbers c) }
+    ensures { result ≡ tested f (curve_numbers c) }
 {
     match c {
         Curve::Segment(x1, y1, x2, y2) => coordinate(

@@ -7,7 +7,7 @@ use borrow.Author.Tests.{ltb-true, leb-true}
 use lib.Dec.{leb, ltb}
 use Rattle.checks.specs.Refusal.{accepted, no_such_record, table_full, numbers_refusal}
 use Rattle.curves.specs.declared.Curve.{Curve}
-use Rattle.checks.specs.Given.{curveNumbers}
+use Rattle.checks.specs.Given.{curve_numbers}
 use Rattle.desk.specs.declared.Table.{Table}
 use Rattle.desk.specs.Table.{most, held, record_at}
 use Rattle.desk.specs.Refused.{record_refusal, pair_refusal, query_refusal}
@@ -28,7 +28,7 @@ pub record_fits : (t : Table) (c : Curve) → record_refusal t c ≡ accepted �
 unfolding record_refusal
 record_fits t c e = go (ltb t.count most) refl e
   where
-    go : (b : Bool) → ltb t.count most ≡ b → cond b (numbers_refusal (curveNumbers c)) table_full ≡ accepted → t.count < most
+    go : (b : Bool) → ltb t.count most ≡ b → cond b (numbers_refusal (curve_numbers c)) table_full ≡ accepted → t.count < most
     go true b e = ltb-true t.count most b
     go false b e = let z : ◌≡◌ {A = ℕ} table_full accepted = e in absurd (omega arith)
 

@@ -22,7 +22,7 @@ use Rattle.curves.specs.declared.Curve.{Curve}
 use Rattle.hits.specs.Need.{lengths}
 use Rattle.calls_crossings.specs.Crossed.{Crossed}
 use Rattle.calls_crossings.proofs.Told.{crossed-counted, crossed-told}
-use Rattle.checks.specs.Given.{curveNumbers}
+use Rattle.checks.specs.Given.{curve_numbers}
 use Rattle.calls_curves.specs.Curves.{curves_hits, curves_outcome}
 use Rattle.desk.specs.Refused.{pair_refusal}
 use Rattle.desk.specs.Answer.{most_hits, room_need}
@@ -33,7 +33,7 @@ module _ (a b : Curve) (depth : ℕ) (room : List Float) (enough : room_need ≤
   too_short = short (curves_hits a b depth) (lengths room)
 
   abbrev faults : Faults
-  faults = tested unfaulted (curveNumbers a ++ curveNumbers b)
+  faults = tested unfaulted (curve_numbers a ++ curve_numbers b)
 
   abbrev asked : ℕ
   asked = refusal faults (deep depth) too_short

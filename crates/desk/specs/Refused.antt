@@ -3,7 +3,7 @@
 use Rattle.std.specs.Prelude.{ℕ, false, cond, ◌&&◌, ◌++◌, ltb}
 use Rattle.curves.specs.declared.Curve.{Curve}
 use Rattle.curves.specs.declared.Curve.TheVariants as curve
-use Rattle.checks.specs.Given.{curveNumbers}
+use Rattle.checks.specs.Given.{curve_numbers}
 use Rattle.checks.specs.Refusal.{malformed_line, no_such_record, table_full, deep, refusal_of, numbers_refusal}
 use Rattle.desk_line.specs.declared.Line.{Line}
 use Rattle.desk_line.specs.declared.Line.TheVariants as says
@@ -12,11 +12,11 @@ use Rattle.desk.specs.Table.{most, held, record_at}
 
 -- an `S` or an `A`
 unfoldable pub record_refusal : Table → Curve → ℕ
-record_refusal t c = cond (ltb t.count most) (numbers_refusal (curveNumbers c)) table_full
+record_refusal t c = cond (ltb t.count most) (numbers_refusal (curve_numbers c)) table_full
 
 -- the numbers of two records, and the depth
 unfoldable pub pair_refusal : Curve → Curve → ℕ → ℕ
-pair_refusal a b depth = refusal_of (curveNumbers a ++ curveNumbers b) (deep depth) false
+pair_refusal a b depth = refusal_of (curve_numbers a ++ curve_numbers b) (deep depth) false
 
 -- an `X`
 unfoldable pub query_refusal : Table → ℕ → ℕ → ℕ → ℕ

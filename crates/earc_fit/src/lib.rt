@@ -1,4 +1,6 @@
 // The conic fit (001): the arc of an ellipse through two points, with a direction at each and a bulge.
+#![tactic(auto)]
+
 mod ends;
 mod target;
 

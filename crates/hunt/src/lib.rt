@@ -1,4 +1,6 @@
 // The sampled hunt (000, `intersect_arcs` where an ellipse takes part): one pass over the cells of a's span.
+#![tactic(auto)]
+
 mod cells;
 mod counts;
 mod settling;

@@ -1,0 +1,6 @@
+-- `checks::unreal` meets its contract.
+use borrow.Author.Rules.{rules}
+use Rattle.checks.proofs.unreal.Goals as goal
+
+pub returns : goal.returns
+returns c = rw c.infinity.ensures
