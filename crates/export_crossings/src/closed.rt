@@ -11,8 +11,7 @@ use curves::Point;
 use export_numbers::SHORT;
 use hits::{HIT, Lengths};
 
-#[unsafe(no_mangle)]
-pub extern "C" fn arcs_intersect_segments(
+pub fn arcs_intersect_segments(
     ax1: f64,
     ay1: f64,
     ax2: f64,
@@ -39,8 +38,7 @@ pub extern "C" fn arcs_intersect_segments(
     counts::found_refusal(f)
 }
 
-#[unsafe(no_mangle)]
-pub extern "C" fn arcs_intersect_segment_arc(
+pub fn arcs_intersect_segment_arc(
     x1: f64,
     y1: f64,
     x2: f64,
@@ -65,14 +63,7 @@ pub extern "C" fn arcs_intersect_segment_arc(
 }
 
 // The numbers of the hit i of so many to `out`, and to `counts` how many they are: 0 where there is no such hit.
-#[unsafe(no_mangle)]
-pub extern "C" fn arcs_hit(
-    room: &[f64],
-    count: usize,
-    i: usize,
-    out: &mut [f64],
-    counts: &mut [u64],
-) -> u32
+pub fn arcs_hit(room: &[f64], count: usize, i: usize, out: &mut [f64], counts: &mut [u64]) -> u32
     ensures { HitOut (hit_part room.now count i) out.old counts.old result out.new counts.new }
 {
     if out.len() < HIT {

@@ -9,8 +9,7 @@ use checks::ROOM_TOO_SHORT;
 use hits::Lengths;
 
 // Hits, brackets, the brackets outside a, outside b and double, and the evaluations go to `counts`.
-#[unsafe(no_mangle)]
-pub extern "C" fn arcs_intersect_arcs(
+pub fn arcs_intersect_arcs(
     a: &[f64],
     a_marks: u32,
     b: &[f64],
@@ -34,8 +33,7 @@ pub extern "C" fn arcs_intersect_arcs(
 }
 
 // The same counts; all but the hits are 0 where nothing is sampled.
-#[unsafe(no_mangle)]
-pub extern "C" fn arcs_intersect(
+pub fn arcs_intersect(
     a: &[f64],
     a_marks: u32,
     b: &[f64],

@@ -1,4 +1,4 @@
-// Crossings for C and Rust to link: numbers and slices of numbers cross, and nothing else.
+// Crossings for C and Rust to link: numbers and slices of numbers cross, and nothing else. The crate `export_crossings_c` exports them.
 mod closed;
 mod counts;
 mod crossings;

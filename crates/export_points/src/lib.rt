@@ -1,4 +1,4 @@
-// Points, tangents, spans and lines for C and Rust to link: numbers and slices of numbers cross, and nothing else.
+// Points, tangents, spans and lines for C and Rust to link: numbers and slices of numbers cross, and nothing else. The crate `export_points_c` exports them.
 mod positions;
 mod spans;
 

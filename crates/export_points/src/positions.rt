@@ -7,8 +7,7 @@ ghost use Rattle.export_numbers.specs.Exported.{NumbersOut};
 
 use curves::Point;
 
-#[unsafe(no_mangle)]
-pub extern "C" fn arcs_ellipse_point(
+pub fn arcs_ellipse_point(
     cx: f64,
     cy: f64,
     rx: f64,
@@ -23,15 +22,13 @@ pub extern "C" fn arcs_ellipse_point(
     export_numbers::write_pair(told, out)
 }
 
-#[unsafe(no_mangle)]
-pub extern "C" fn arcs_ellipse_tangent(rx: f64, ry: f64, rot: f64, t: f64, out: &mut [f64]) -> u32
+pub fn arcs_ellipse_tangent(rx: f64, ry: f64, rot: f64, t: f64, out: &mut [f64]) -> u32
     ensures { NumbersOut 2 (ellipse_tangent_answer rx ry rot t) out.old result out.new }
 {
     export_numbers::write_pair(calls_points::ellipse_tangent(rx, ry, rot, t), out)
 }
 
-#[unsafe(no_mangle)]
-pub extern "C" fn arcs_arc_point_at(a: &[f64], a_marks: u32, t: f64, out: &mut [f64]) -> u32
+pub fn arcs_arc_point_at(a: &[f64], a_marks: u32, t: f64, out: &mut [f64]) -> u32
     ensures { NumbersOut 2 (arc_point_at_answer (lent_arc a.now a_marks) t) out.old result out.new }
 {
     export_numbers::write_pair(
@@ -40,8 +37,7 @@ pub extern "C" fn arcs_arc_point_at(a: &[f64], a_marks: u32, t: f64, out: &mut [
     )
 }
 
-#[unsafe(no_mangle)]
-pub extern "C" fn arcs_arc_tangent_at(a: &[f64], a_marks: u32, t: f64, out: &mut [f64]) -> u32
+pub fn arcs_arc_tangent_at(a: &[f64], a_marks: u32, t: f64, out: &mut [f64]) -> u32
     ensures { NumbersOut 2 (arc_tangent_at_answer (lent_arc a.now a_marks) t) out.old result out.new }
 {
     export_numbers::write_pair(
@@ -50,8 +46,7 @@ pub extern "C" fn arcs_arc_tangent_at(a: &[f64], a_marks: u32, t: f64, out: &mut
     )
 }
 
-#[unsafe(no_mangle)]
-pub extern "C" fn arcs_arc_start_pos(a: &[f64], a_marks: u32, out: &mut [f64]) -> u32
+pub fn arcs_arc_start_pos(a: &[f64], a_marks: u32, out: &mut [f64]) -> u32
     ensures { NumbersOut 2 (arc_start_pos_answer (lent_arc a.now a_marks)) out.old result out.new }
 {
     export_numbers::write_pair(
@@ -60,8 +55,7 @@ pub extern "C" fn arcs_arc_start_pos(a: &[f64], a_marks: u32, out: &mut [f64]) -
     )
 }
 
-#[unsafe(no_mangle)]
-pub extern "C" fn arcs_arc_end_pos(a: &[f64], a_marks: u32, out: &mut [f64]) -> u32
+pub fn arcs_arc_end_pos(a: &[f64], a_marks: u32, out: &mut [f64]) -> u32
     ensures { NumbersOut 2 (arc_end_pos_answer (lent_arc a.now a_marks)) out.old result out.new }
 {
     export_numbers::write_pair(
@@ -70,8 +64,7 @@ pub extern "C" fn arcs_arc_end_pos(a: &[f64], a_marks: u32, out: &mut [f64]) -> 
     )
 }
 
-#[unsafe(no_mangle)]
-pub extern "C" fn arcs_point_to_segment_dist(
+pub fn arcs_point_to_segment_dist(
     px: f64,
     py: f64,
     ax: f64,
@@ -90,8 +83,7 @@ pub extern "C" fn arcs_point_to_segment_dist(
     export_numbers::write_number(told, out)
 }
 
-#[unsafe(no_mangle)]
-pub extern "C" fn arcs_project_onto_segment(
+pub fn arcs_project_onto_segment(
     px: f64,
     py: f64,
     ax: f64,
@@ -110,8 +102,7 @@ pub extern "C" fn arcs_project_onto_segment(
     export_numbers::write_pair(told, out)
 }
 
-#[unsafe(no_mangle)]
-pub extern "C" fn arcs_line_line_intersection(
+pub fn arcs_line_line_intersection(
     x1: f64,
     y1: f64,
     x2: f64,

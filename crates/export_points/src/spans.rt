@@ -6,20 +6,13 @@ ghost use Rattle.export_numbers.specs.Exported.{NumbersOut};
 
 use curves::Point;
 
-#[unsafe(no_mangle)]
-pub extern "C" fn arcs_norm_tau(v: f64, out: &mut [f64]) -> u32
+pub fn arcs_norm_tau(v: f64, out: &mut [f64]) -> u32
     ensures { NumbersOut 1 (norm_tau_answer v) out.old result out.new }
 {
     export_numbers::write_number(calls_points::norm_tau(v), out)
 }
 
-#[unsafe(no_mangle)]
-pub extern "C" fn arcs_arc_param_in_span(
-    a: &[f64],
-    a_marks: u32,
-    theta: f64,
-    out: &mut [f64],
-) -> u32
+pub fn arcs_arc_param_in_span(a: &[f64], a_marks: u32, theta: f64, out: &mut [f64]) -> u32
     ensures { NumbersOut 1 (arc_param_in_span_answer (lent_arc a.now a_marks) theta) out.old result out.new }
 {
     export_numbers::write_number(
@@ -28,8 +21,7 @@ pub extern "C" fn arcs_arc_param_in_span(
     )
 }
 
-#[unsafe(no_mangle)]
-pub extern "C" fn arcs_arc_radii(a: &[f64], a_marks: u32, out: &mut [f64]) -> u32
+pub fn arcs_arc_radii(a: &[f64], a_marks: u32, out: &mut [f64]) -> u32
     ensures { NumbersOut 2 (arc_radii_answer (lent_arc a.now a_marks)) out.old result out.new }
 {
     export_numbers::write_pair(
@@ -38,14 +30,7 @@ pub extern "C" fn arcs_arc_radii(a: &[f64], a_marks: u32, out: &mut [f64]) -> u3
     )
 }
 
-#[unsafe(no_mangle)]
-pub extern "C" fn arcs_arc_theta_of_pos(
-    a: &[f64],
-    a_marks: u32,
-    px: f64,
-    py: f64,
-    out: &mut [f64],
-) -> u32
+pub fn arcs_arc_theta_of_pos(a: &[f64], a_marks: u32, px: f64, py: f64, out: &mut [f64]) -> u32
     ensures { NumbersOut 1 (arc_theta_of_pos_answer (lent_arc a.now a_marks) (at px py)) out.old result out.new }
 {
     let told = calls_points::arc_theta_of_pos(
@@ -55,14 +40,7 @@ pub extern "C" fn arcs_arc_theta_of_pos(
     export_numbers::write_number(told, out)
 }
 
-#[unsafe(no_mangle)]
-pub extern "C" fn arcs_arc_param_at_point(
-    a: &[f64],
-    a_marks: u32,
-    px: f64,
-    py: f64,
-    out: &mut [f64],
-) -> u32
+pub fn arcs_arc_param_at_point(a: &[f64], a_marks: u32, px: f64, py: f64, out: &mut [f64]) -> u32
     ensures { NumbersOut 1 (arc_param_at_point_answer (lent_arc a.now a_marks) (at px py)) out.old result out.new }
 {
     let told = calls_points::arc_param_at_point(

@@ -8,14 +8,7 @@ ghost use Rattle.export_numbers.specs.Exported.{NumbersOut};
 use crate::out;
 use curves::Point;
 
-#[unsafe(no_mangle)]
-pub extern "C" fn arcs_point_to_arc_dist(
-    px: f64,
-    py: f64,
-    a: &[f64],
-    a_marks: u32,
-    out: &mut [f64],
-) -> u32
+pub fn arcs_point_to_arc_dist(px: f64, py: f64, a: &[f64], a_marks: u32, out: &mut [f64]) -> u32
     ensures { NumbersOut 3 (point_to_arc_dist_answer (at px py) (lent_arc a.now a_marks)) out.old result out.new }
 {
     let told = calls_shapes::point_to_arc_dist(
@@ -25,14 +18,7 @@ pub extern "C" fn arcs_point_to_arc_dist(
     out::write_distance(told, out)
 }
 
-#[unsafe(no_mangle)]
-pub extern "C" fn arcs_nearest_arc_param(
-    a: &[f64],
-    a_marks: u32,
-    px: f64,
-    py: f64,
-    out: &mut [f64],
-) -> u32
+pub fn arcs_nearest_arc_param(a: &[f64], a_marks: u32, px: f64, py: f64, out: &mut [f64]) -> u32
     ensures { NumbersOut 1 (nearest_arc_param_answer (lent_arc a.now a_marks) (at px py)) out.old result out.new }
 {
     let told = calls_shapes::nearest_arc_param(
@@ -43,8 +29,7 @@ pub extern "C" fn arcs_nearest_arc_param(
 }
 
 // A flag is set where it is not 0.
-#[unsafe(no_mangle)]
-pub extern "C" fn arcs_svg_arc_to_center(
+pub fn arcs_svg_arc_to_center(
     x1: f64,
     y1: f64,
     x2: f64,
@@ -70,8 +55,7 @@ pub extern "C" fn arcs_svg_arc_to_center(
     out::write_center(told, out)
 }
 
-#[unsafe(no_mangle)]
-pub extern "C" fn arcs_circumscribed_arc(
+pub fn arcs_circumscribed_arc(
     x1: f64,
     y1: f64,
     x2: f64,
@@ -91,8 +75,7 @@ pub extern "C" fn arcs_circumscribed_arc(
 }
 
 // (tx, ty) is a direction.
-#[unsafe(no_mangle)]
-pub extern "C" fn arcs_circle_tangent_through(
+pub fn arcs_circle_tangent_through(
     sx: f64,
     sy: f64,
     ex: f64,
@@ -112,8 +95,7 @@ pub extern "C" fn arcs_circle_tangent_through(
 }
 
 // (tx1, ty1) and (tx2, ty2) are directions.
-#[unsafe(no_mangle)]
-pub extern "C" fn arcs_fit_earc_tangent(
+pub fn arcs_fit_earc_tangent(
     x1: f64,
     y1: f64,
     tx1: f64,

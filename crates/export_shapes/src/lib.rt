@@ -1,4 +1,4 @@
-// Distances, nearest parameters, arcs and circles from points for C and Rust to link: numbers and slices of numbers cross, and nothing else.
+// Distances, nearest parameters, arcs and circles from points for C and Rust to link: numbers and slices of numbers cross, and nothing else. The crate `export_shapes_c` exports them.
 mod figures;
 mod out;
 
