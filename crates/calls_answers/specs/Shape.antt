@@ -1,6 +1,6 @@
 -- 01, 'Forms': "If an answer is an enum, a definition states this paper's number and values for each of the enum's cases." 01, the table of refusals: 5 "the Rust answers `None` in arc
 -- conversion, three-point arc, tangent circle or conic fit". The mark ccw is a count, 1 or 0.
-use Rattle.std.specs.Prelude.{ℕ, Bool, cond, List, [], ◌∷◌}
+use Rattle.std.specs.Prelude.{ℕ, Bool, cond, [], ◌∷◌}
 use Rattle.shapes.specs.declared.Near.{Near}
 use Rattle.shapes.specs.declared.Converted.{Converted}
 use Rattle.shapes.specs.declared.Conversion.{Conversion}

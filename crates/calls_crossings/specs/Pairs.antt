@@ -1,7 +1,6 @@
 -- 000, `intersect_arcs`: "Circle-circle goes through the closed-form two-circle construction; any pair involving an ellipse falls back to sampling".
-use Rattle.std.specs.Prelude.{ℕ, cond, ◌||◌, List, []}
+use Rattle.std.specs.Prelude.{ℕ, cond, ◌||◌}
 use Rattle.curves.specs.declared.Arc.{Arc}
-use Rattle.hits.specs.declared.CurveHit.{CurveHit}
 use Rattle.hits.specs.Listed.{listed}
 use Rattle.crossing.specs.Circles.{intersect_circle_circle}
 use Rattle.hits.specs.Outcome.{Outcome, closed}

@@ -1,4 +1,6 @@
 // The calls of parts 7 to 9: each takes any number, checks its own, and refuses by document 01's number.
+#![tactic(auto)]
+
 mod calls;
 
 pub use calls::{

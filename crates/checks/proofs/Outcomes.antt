@@ -1,10 +1,9 @@
 -- NO SECOND OUTCOME: an answer is fixed by what it tells, so that a contract on what is told fixes the answer.
-use mathlib.Core.Path.{◌≡◌, refl, sym, ap, ◌∙◌}
-use mathlib.Core.List.{List, [], ◌∷◌}
+use mathlib.Core.Path.{◌≡◌, sym, ap, ◌∙◌}
+use mathlib.Core.List.{List}
 use Prim.Native.Nat.{ℕ}
 use native.Mathlib.Omega.{arith}
 use lib.ListN.{length, take, get_or}
-use lib.Ieee.{Float}
 use Rattle.hits.specs.declared.Tally.{Tally}
 use Rattle.checks.specs.declared.Number.{Number}
 use Rattle.checks.specs.declared.Number.TheVariants as one
@@ -14,7 +13,7 @@ use Rattle.checks.specs.declared.Found.{Found}
 use Rattle.checks.specs.declared.Found.TheVariants as found
 use Rattle.checks.specs.declared.Hunted.{Hunted}
 use Rattle.checks.specs.declared.Hunted.TheVariants as hunted
-use Rattle.checks.specs.Answer.{Answer, number_told, pair_told, found_told, hunted_told, tally_counts}
+use Rattle.checks.specs.Answer.{Answer, number_told, pair_told, found_told, hunted_told}
 
 -- a list with one number is not the empty one
 longer : {A : Type 0} → ◌≡◌ {A = ℕ} 1 0 → A

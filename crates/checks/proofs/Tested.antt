@@ -10,7 +10,7 @@ use lib.Ieee.Scale.{finite}
 use Rattle.laws.specs.Size.{abs}
 use Rattle.checks.specs.declared.Faults.{Faults}
 use Rattle.checks.specs.Given.{Given, unreal, beyond, tested}
-use Rattle.checks.specs.Refusal.{accepted, not_aNumber, beyond_limit, too_deep, room_too_short, deepest, deep, refusal}
+use Rattle.checks.specs.Refusal.{accepted, not_a_number, beyond_limit, too_deep, room_too_short, deepest, deep, refusal}
 
 pub finite_size : (x : Float) → lt (abs x) (inf false) ≡ finite x
 unfolding lt abs
@@ -60,8 +60,8 @@ pub unrefused : (f : Faults) (deep short : Bool) → refusal f deep short ≡ ac
 unfolding refusal
 unrefused f deep short = go f.unreal f.beyond deep short
   where
-    go : (a b c d : Bool) → cond a not_aNumber (cond b beyond_limit (cond c too_deep (cond d room_too_short accepted))) ≡ accepted → Passed (record { unreal = a; beyond = b }) c d
-    go true b c d h = let z : ◌≡◌ {A = ℕ} not_aNumber accepted = h in absurd (omega arith)
+    go : (a b c d : Bool) → cond a not_a_number (cond b beyond_limit (cond c too_deep (cond d room_too_short accepted))) ≡ accepted → Passed (record { unreal = a; beyond = b }) c d
+    go true b c d h = let z : ◌≡◌ {A = ℕ} not_a_number accepted = h in absurd (omega arith)
     go false true c d h = let z : ◌≡◌ {A = ℕ} beyond_limit accepted = h in absurd (omega arith)
     go false false true d h = let z : ◌≡◌ {A = ℕ} too_deep accepted = h in absurd (omega arith)
     go false false false true h = let z : ◌≡◌ {A = ℕ} room_too_short accepted = h in absurd (omega arith)

@@ -10,8 +10,8 @@ use Rattle.checks.specs.Given.{Given, tested}
 abbrev pub accepted : ℕ
 accepted = 0
 
-abbrev pub not_aNumber : ℕ
-not_aNumber = 1
+abbrev pub not_a_number : ℕ
+not_a_number = 1
 
 abbrev pub beyond_limit : ℕ
 beyond_limit = 2
@@ -47,7 +47,7 @@ deep depth = ltb deepest depth
 -- ---- the order
 -- by the faults of the numbers, whether the depth is above its limit, and whether a room is too short: a call says both by its own limit and its own rooms
 unfoldable pub refusal : Faults → Bool → Bool → ℕ
-refusal f deep short = cond f.unreal not_aNumber (cond f.beyond beyond_limit (cond deep too_deep (cond short room_too_short accepted)))
+refusal f deep short = cond f.unreal not_a_number (cond f.beyond beyond_limit (cond deep too_deep (cond short room_too_short accepted)))
 
 abbrev pub unfaulted : Faults
 unfaulted = record { unreal = false; beyond = false }

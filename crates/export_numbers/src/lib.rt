@@ -1,4 +1,6 @@
 // What the exports share: C's numbers as the library's, and the library's answers as numbers in lent slices.
+#![tactic(auto)]
+
 mod numbers;
 mod out;
 

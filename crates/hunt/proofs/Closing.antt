@@ -1,6 +1,6 @@
 -- WHICH CELLS BRACKET AT WHICH DEPTH, read off the definition: at depth 0 those of the Rust; from depth 1 on the last cell also where its end value is 0, and no other cell.
-use mathlib.Core.Path.{◌≡◌, refl, sym, ap, ◌∙◌}
-use mathlib.Core.Bool.{Bool, true, false, cond, ◌&&◌, ◌||◌, or-false}
+use mathlib.Core.Path.{◌≡◌, refl}
+use mathlib.Core.Bool.{Bool, true, false, cond, ◌||◌, or-false}
 use Prim.Native.Nat.{ℕ, suc, ◌<◌}
 use native.Mathlib.Omega.{arith}
 use borrow.Author.Tests.{eq-eqb, ne_eqb}

@@ -1,7 +1,6 @@
 -- What is proved of the hunt as a whole: its counts add up, and no second outcome satisfies its contract.
 use mathlib.Core.Path.{◌≡◌, refl, sym, ◌∙◌}
 use mathlib.Core.Bool.{Bool, true, false, cond}
-use mathlib.Core.List.{List}
 use Prim.Native.Nat.{ℕ, ◌+◌, ◌*◌}
 use lib.ListN.{length}
 use lib.Ieee.{Float}

@@ -1,5 +1,4 @@
 -- `checks::angle` meets its contract: finite is what lies below infinity in size.
-use borrow.Author.Rules.{rules}
 use Rattle.checks.specs.Given.{tested}
 use Rattle.checks.proofs.Tested.{finite_size}
 use Rattle.checks.proofs.angle.Goals as goal

@@ -1,6 +1,5 @@
 -- `checks::arc` meets its contract.
 use Rattle.checks.specs.Given.{tested}
-use borrow.Author.Rules.{rules}
 use Rattle.checks.proofs.arc.Goals as goal
 
 pub returns : goal.returns

@@ -1,6 +1,5 @@
 -- `checks::curve` meets its contract.
 use Rattle.checks.specs.Given.{tested}
-use borrow.Author.Rules.{rules}
 use Rattle.checks.proofs.curve.Goals as goal
 
 pub returns-in-Segment : goal.returns-in-Segment

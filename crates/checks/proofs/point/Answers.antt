@@ -1,6 +1,5 @@
 -- `checks::point` meets its contract.
 use Rattle.checks.specs.Given.{tested}
-use borrow.Author.Rules.{rules}
 use Rattle.checks.proofs.point.Goals as goal
 
 pub returns : goal.returns

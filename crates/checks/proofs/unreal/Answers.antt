@@ -1,5 +1,4 @@
 -- `checks::unreal` meets its contract.
-use borrow.Author.Rules.{rules}
 use Rattle.checks.proofs.unreal.Goals as goal
 
 pub returns : goal.returns

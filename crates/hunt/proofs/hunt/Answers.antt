@@ -5,11 +5,9 @@ use Prim.Native.Nat.{◌≤◌, ◌^◌}
 use native.Mathlib.Omega.{arith}
 use lib.Pow.{pow_mono}
 use Rattle.hits.proofs.Held.{holds_empty}
-use Rattle.hunt.specs.Cells.{span}
 use Rattle.hunt.specs.Visits.{scanned}
-use Rattle.hunt.specs.Hunt.{early, hunted}
+use Rattle.hunt.specs.Hunt.{hunted}
 use Rattle.hunt.proofs.Hunts.{hunted_test, hunted-early, hunted_on}
-use borrow.Author.Rules.{rules}
 use Rattle.hunt.proofs.hunt.Goals as goal
 
 pub returns-then-early : goal.returns-then-early

@@ -1,16 +1,11 @@
 use mathlib.Core.Path.{◌≡◌, refl, sym, ap, ◌∙◌}
 use mathlib.Core.List.{[], ◌∷◌}
-use Prim.Native.Nat.{◌≤◌, ◌-◌}
 use native.Mathlib.Omega.{arith}
-use lib.ListN.{length}
-use Rattle.hits.specs.Holds.{Holds}
 use Rattle.hits.proofs.Held.{holds_empty}
-use Rattle.hunt_bracket.specs.Frame.{value}
 use Rattle.hunt.specs.Cells.{sample}
 use Rattle.hits.specs.Outcome.{Outcome, tally, none}
 use Rattle.hunt.specs.Visits.{further, scanned}
 use Rattle.hunt.proofs.Outcomes.{look_counts, scanned-none, scanned_more, scanned_small, cell_is}
-use borrow.Author.Rules.{rules}
 use Rattle.hunt.proofs.scan.Goals as goal
 
 pub looked-t-requires : goal.looked-t-requires
@@ -40,11 +35,11 @@ loop-i-preserved c =
     let l = c.loop-i in
     let o = scanned z.f z.start z.step z.closing l.i in
     let v = c.visit-t.ensures o z.room.now l.invariant.4 in
-    let same = cell_is z.f z.start z.step z.closing l.i l.lo c.sample-hi.result l.g-lo c.value-g_hi.result l.invariant.2
+    let same = cell_is z.f z.start z.step z.closing l.i l.lo c.sample-hi.result l.g_lo c.value-g_hi.result l.invariant.2
     c.sample-hi.ensures l.invariant.3 c.value-g_hi.ensures in
     let next = sym (scanned_more z.f z.start z.step z.closing l.i) in (
       omega arith,
-      c.visit-t.auto.1.1.1.0 ∙ l.invariant.1,
+      c.visit-t.auto.room ∙ l.invariant.1,
       c.sample-hi.ensures,
       c.value-g_hi.ensures,
       rw (← next, ← same) v,
