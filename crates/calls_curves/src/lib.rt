@@ -1,4 +1,6 @@
 // The call on two curves of either kind: it takes any number, checks its own, and refuses by document 01's number.
+#![tactic(auto)]
+
 ghost use Rattle.std.specs.Prelude.{◌≡◌, ◌≤◌, ◌/◌, length};
 ghost use Rattle.curves.specs.At.{at};
 ghost use Rattle.hits.specs.Hit.{hit_size};

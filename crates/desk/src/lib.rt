@@ -1,4 +1,6 @@
 // One line of arcdesk: with the table so far it gives the table after it and the bytes to print.
+#![tactic(auto)]
+
 ghost use Rattle.std.specs.Prelude.{◌≡◌};
 ghost use Rattle.desk.specs.Table.{empty};
 ghost use Rattle.desk.specs.Answer.{answer};

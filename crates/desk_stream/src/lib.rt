@@ -1,4 +1,6 @@
 // The input of arcdesk, in pieces of any size: lines are found in it and answered, a step at a time. It reads and writes nothing itself.
+#![tactic(auto)]
+
 ghost use Rattle.std.specs.Prelude.{◌≡◌, ◌≤◌, length, take};
 ghost use Rattle.desk_line.specs.Read.{read_line};
 ghost use Rattle.desk.specs.Answer.{room_need, out_need};

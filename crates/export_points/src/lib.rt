@@ -1,4 +1,6 @@
 // Points, tangents, spans and lines for C and Rust to link: numbers and slices of numbers cross, and nothing else. The crate `export_points_c` exports them.
+#![tactic(auto)]
+
 mod positions;
 mod spans;
 

@@ -1,4 +1,6 @@
 // The square root and the angles for C and Rust to link: numbers and slices of numbers cross, and nothing else. The crate `export_routines_c` exports them.
+#![tactic(auto)]
+
 ghost use Rattle.std.specs.Prelude.{◌≡◌, [], ◌∷◌};
 ghost use Rattle.root.specs.SquareRoot.{square_root};
 ghost use Rattle.sine.specs.Rule.{sine, cosine};

@@ -1,4 +1,6 @@
 // Distances, nearest parameters, arcs and circles from points for C and Rust to link: numbers and slices of numbers cross, and nothing else. The crate `export_shapes_c` exports them.
+#![tactic(auto)]
+
 mod figures;
 mod out;
 
