@@ -23,7 +23,7 @@ use Rattle.root.specs.Norm.{norm}
 use Rattle.construct.specs.Circumscribed.{circumscribed_arc, circumcenter, bearing}
 use Rattle.construct.specs.TangentCircle.{circle_tangent_through}
 use Rattle.calls_crossings.specs.Pairs.{pair_outcome}
-use Rattle.drawings.specs.Drawing.{Drawing, found}
+use Rattle.drawings.specs.Drawing.{found}
 use Rattle.drawings.specs.Table.{drawings}
 
 pub drawings-found : map (λ d. found d.call) drawings ≡ map (λ d. d.gives) drawings

@@ -5,7 +5,6 @@ use Rattle.std.specs.Float.Ieee.{to_bits}
 use Rattle.laws.specs.Literal.{zero}
 use Rattle.scalar.specs.Angles.{tau}
 use Rattle.curves.specs.declared.Point.{Point}
-use Rattle.curves.specs.declared.Arc.{Arc}
 use Rattle.rooms.specs.Laid.{flat}
 use Rattle.hits.specs.declared.CurveHit.{CurveHit}
 use Rattle.construct.specs.Circumscribed.{circumscribed_arc}

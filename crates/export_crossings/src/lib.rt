@@ -1,4 +1,6 @@
 // Crossings for C and Rust to link: numbers and slices of numbers cross, and nothing else. The crate `export_crossings_c` exports them.
+#![tactic(auto)]
+
 mod closed;
 mod counts;
 mod crossings;

@@ -19,7 +19,7 @@ use Rattle.laws.proofs.Doubling.{roomy_finite}
 use Rattle.arc.specs.Span.{arc_param_in_span}
 use Rattle.hits.specs.declared.CurveHit.{CurveHit}
 use Rattle.hits.specs.Hit.{hit_of}
-use Rattle.hits.specs.Outcome.{Outcome, none}
+use Rattle.hits.specs.Outcome.{Outcome}
 use Rattle.hunt_bracket.specs.declared.Frame.{Frame}
 use Rattle.hunt_bracket.specs.declared.Cell.{Cell}
 use Rattle.hunt_bracket.specs.declared.Fate.TheVariants.{Double, Hit}
