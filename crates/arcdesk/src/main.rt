@@ -1,6 +1,8 @@
 // Reads records and queries from standard input, one a line, and prints the answers. Which bytes are printed is said and proved in
 // `desk_stream`, of pieces of any size. Here the pieces are only read, and what each step leaves in `out` is only written. At the first
-// write or read that fails a line on standard error says why, and nothing more is answered. A program of Rattle has no exit status.
+// write or read that fails a line on standard error says why, and nothing more is answered.
+#![tactic(auto)]
+
 ghost use Rattle.std.specs.Prelude.{◌≤◌, length};
 ghost use Rattle.desk_lines.specs.Hand.{most};
 ghost use Rattle.desk_output.specs.Reading.{start};
@@ -10,7 +12,15 @@ ghost use Rattle.desk_stream.specs.Run.{KnowsPart, KnowsSome};
 use desk::{OUT_NEED, ROOM_NEED};
 use desk_lines::KEPT;
 use desk_stream::Stream;
-use libc::{STDIN_FILENO, STDOUT_FILENO};
+use std::io::{Read, Stderr, Stdin, Stdout};
+
+// Where the lines come from, where the answers go, and where it is said that a read or a write failed.
+#[derive(Clone, Copy)]
+struct Streams {
+    input: Stdin,
+    output: Stdout,
+    errors: Stderr,
+}
 
 // What is known after a piece, and whether all that its steps left for printing was written.
 #[derive(Drop)]
@@ -28,18 +38,22 @@ struct Turn {
 }
 
 // Whether all was written.
-fn print(out: &[u8], n: usize) -> bool
+fn print(to: Streams, out: &[u8], n: usize) -> bool
     requires { n ≤ length out.now }
 {
-    if io::write_all(STDOUT_FILENO, &out[..n]) {
-        return true;
+    match to.output.write_all(&out[..n]) {
+        Ok(()) => true,
+        Err(e) => {
+            // Where that line cannot be written either, nothing is left to say it on.
+            let _ = eprintln!(to.errors; "arcdesk: the output cannot be written: {e}");
+            false
+        }
     }
-    os::fail(b"arcdesk: the output cannot be written");
-    false
 }
 
 // The bytes of a piece, a step at a time. What a step leaves for printing is printed at once; where that fails, no step follows.
 fn piece(
+    to: Streams,
     s: Stream,
     bytes: &[u8],
     line: &mut [u8; KEPT],
@@ -54,7 +68,7 @@ fn piece(
     let mut written = true;
     while at < bytes.len() && written {
         let r = desk_stream::step(t, bytes, at, line, room, out);
-        written = print(out, r.printed);
+        written = print(to, out, r.printed);
         let after = r.stream;
         t = after;
         at = r.read;
@@ -66,6 +80,7 @@ fn piece(
 }
 
 fn read_piece(
+    streams: Streams,
     s: Stream,
     line: &mut [u8; KEPT],
     room: &mut [f64; ROOM_NEED],
@@ -74,28 +89,36 @@ fn read_piece(
     requires { s.kept ≤ most }
     ensures { KnowsSome (reading_of s line.old) result.stream line.new }
 {
-    let mut buffer = io::buffer();
-    let got = libc::read(STDIN_FILENO, &mut buffer);
-    if got < 0 {
-        os::fail(b"arcdesk: the input cannot be read");
-        return Turn {
-            stream: s,
-            more: false,
-            well: false,
-        };
-    }
-    let n = io::count(got, &buffer);
-    let t = piece(s, &buffer[..n], line, room, out);
-    let after = t.stream;
-    Turn {
-        stream: after,
-        more: (0 < n) & t.written,
-        well: t.written,
+    let mut buffer = [0u8; 4096];
+    let mut input = streams.input;
+    match input.read(&mut buffer) {
+        Ok(n) => {
+            let t = piece(streams, s, &buffer[..n], line, room, out);
+            let after = t.stream;
+            Turn {
+                stream: after,
+                more: (0 < n) & t.written,
+                well: t.written,
+            }
+        }
+        Err(e) => {
+            let _ = eprintln!(streams.errors; "arcdesk: the input cannot be read: {e}");
+            Turn {
+                stream: s,
+                more: false,
+                well: false,
+            }
+        }
     }
 }
 
-// A proved loop has to end, and nothing says that the input does. So the turns count down from a number that no run uses up.
-fn read_all(line: &mut [u8; KEPT], room: &mut [f64; ROOM_NEED], out: &mut [u8; OUT_NEED]) -> Turn
+// A proved loop has to end, and nothing says that the input does. So the turns are counted, up to a number that no run reaches.
+fn read_all(
+    streams: Streams,
+    line: &mut [u8; KEPT],
+    room: &mut [f64; ROOM_NEED],
+    out: &mut [u8; OUT_NEED],
+) -> Turn
     ensures { KnowsSome start result.stream line.new }
 {
     let mut t = Turn {
@@ -103,28 +126,40 @@ fn read_all(line: &mut [u8; KEPT], room: &mut [f64; ROOM_NEED], out: &mut [u8; O
         more: true,
         well: true,
     };
-    let mut turns = u64::MAX;
-    while turns > 0 && t.more {
+    for _ in 0..u64::MAX {
+        if !t.more {
+            break;
+        }
         let s = t.stream;
-        t = read_piece(s, line, room, out);
-        turns -= 1;
+        t = read_piece(streams, s, line, room, out);
     }
     t
 }
 
 // The input has ended.
-fn finish(s: Stream, line: &[u8; KEPT], room: &mut [f64; ROOM_NEED], out: &mut [u8; OUT_NEED]) {
+fn finish(
+    to: Streams,
+    s: Stream,
+    line: &[u8; KEPT],
+    room: &mut [f64; ROOM_NEED],
+    out: &mut [u8; OUT_NEED],
+) {
     let n = desk_stream::finish(s, line, room, out);
-    print(out, n);
+    print(to, out, n);
 }
 
-fn main() {
+fn main(rt: HostRuntime) {
+    let streams = Streams {
+        input: rt.stdin(),
+        output: rt.stdout(),
+        errors: rt.stderr(),
+    };
     let mut line = [0u8; KEPT];
     let mut room = [0.0; ROOM_NEED];
     let mut out = [0u8; OUT_NEED];
-    let t = read_all(&mut line, &mut room, &mut out);
+    let t = read_all(streams, &mut line, &mut room, &mut out);
     let s = t.stream;
     if t.well {
-        finish(s, &line, &mut room, &mut out);
+        finish(streams, s, &line, &mut room, &mut out);
     }
 }

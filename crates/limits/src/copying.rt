@@ -7,10 +7,9 @@ use hits::{HIT, Tally};
 use hunt_bracket::fates::fate;
 use hunt_bracket::{Cell, Fate, Frame};
 use scalar::TAU;
-use std::num::wrapping_add_u32;
 
 // The counts so far, and the fate of the first bracket.
-#[derive(Drop)]
+#[derive(Clone, Copy)]
 struct Copying {
     tally: Tally,
     first: Fate,
@@ -29,8 +28,8 @@ fn copied(f: Frame, c: Cell, s: Copying, room: &[f64]) -> Fate {
 // One more bracket, with the fate d: a hit goes to the room.
 fn settled(t: Tally, d: Fate, room: &mut [f64]) -> Tally {
     let mut r = t;
-    r.brackets = wrapping_add_u32(t.brackets, 1);
-    r.evaluations = wrapping_add_u32(t.evaluations, 61);
+    r.brackets = t.brackets.wrapping_add(1);
+    r.evaluations = t.evaluations.wrapping_add(61);
     let n = t.hits;
     if n < room.len() / HIT {
         return match d {
@@ -76,7 +75,7 @@ pub fn hunt(a: Arc, b: Arc, depth: u32, room: &mut [f64]) -> Tally
             outside_a: 0,
             outside_b: 0,
             doubles: 0,
-            evaluations: wrapping_add_u32(n, 1),
+            evaluations: n.wrapping_add(1),
         },
         first: Fate::Double,
     };

@@ -3,6 +3,8 @@
 // asks the library the same. A row is the same where the refusal is, and each word of the answer, and where what was lent past it
 // stands as it was, as far as 128 words reach; a number's word is its bits, with one NaN. It prints for each call how many rows it had and how many of
 // them the library answers otherwise; at last the sum, and how many rows could not be read.
+#![tactic(auto)]
+
 mod asked;
 mod by_arc;
 mod by_numbers;
@@ -10,14 +12,15 @@ mod crossings;
 
 ghost use Rattle.std.specs.Prelude.{◌≤◌, ◌+◌};
 
-use libc::STDIN_FILENO;
 use replay_rows::rows::Reader;
 use replay_rows::tally::Row;
 use replay_rows::words::UNWRITTEN_BITS;
 use replay_rows::{rows, tally, words};
+use std::io;
+use std::io::{Read, Stdin};
 
 // The row at hand, how many rows could not be read, and whether more bytes may come.
-#[derive(Drop)]
+#[derive(Clone, Copy)]
 struct State {
     row: Reader,
     unread: u64,
@@ -98,40 +101,43 @@ fn piece(
 ) -> State {
     let mut t = s;
     t.more = false;
-    let mut i: usize = 0;
-    while i < bytes.len() {
-        t = step(t, bytes[i], words, asked, differ);
-        i += 1;
+    for b in bytes {
+        t = step(t, *b, words, asked, differ);
     }
     t
 }
 
 fn read_piece(
+    input: &mut Stdin,
     s: State,
     words: &mut [u64; 128],
     asked: &mut [u64; 26],
     differ: &mut [u64; 26],
-) -> State {
-    let mut buffer = io::large_buffer();
-    let got = libc::read(STDIN_FILENO, &mut buffer);
-    let n = io::count(got, &buffer);
-    piece(s, &buffer[..n], words, asked, differ)
+) -> io::Result<State> {
+    let mut buffer = [0u8; 65536];
+    let n = input.read(&mut buffer)?;
+    Ok(piece(s, &buffer[..n], words, asked, differ))
 }
 
-// A proved loop has to end, and nothing says that the input does. So the turns count down from a number that no run uses up.
-fn read_all(asked: &mut [u64; 26], differ: &mut [u64; 26]) -> State {
+// A proved loop has to end, and nothing says that the input does. So the turns are counted, up to a number that no run reaches.
+fn read_all(
+    input: &mut Stdin,
+    asked: &mut [u64; 26],
+    differ: &mut [u64; 26],
+) -> io::Result<State> {
     let mut words = [0u64; 128];
     let mut s = State {
         row: rows::start(),
         unread: 0,
         more: true,
     };
-    let mut turns = u64::MAX;
-    while turns > 0 && s.more {
-        s = read_piece(s, &mut words, asked, differ);
-        turns -= 1;
+    for _ in 0..u64::MAX {
+        if !s.more {
+            break;
+        }
+        s = read_piece(input, s, &mut words, asked, differ)?;
     }
-    s
+    Ok(s)
 }
 
 // A row without its newline may be cut, and is not read.
@@ -143,9 +149,10 @@ fn unread(s: State) -> u64 {
     s.unread
 }
 
-fn main() {
+fn main(rt: HostRuntime) -> io::Result<()> {
+    let mut input = rt.stdin();
     let mut asked = [0u64; 26];
     let mut differ = [0u64; 26];
-    let s = read_all(&mut asked, &mut differ);
-    tally::print_all(&asked, &differ, unread(s));
+    let s = read_all(&mut input, &mut asked, &mut differ)?;
+    tally::print_all(rt.stdout(), &asked, &differ, unread(s))
 }

@@ -3,11 +3,14 @@
 // It prints for each routine how many rows it had and how many of them it answers otherwise.
 // The root and the angles are asked by their exports, as C and Rust ask them. Of the exported `sin_cos` a row has the angle, how many of
 // three numbers are lent, and which of them is meant: its bits after the call are the answer; for 3 the refusal is.
+#![tactic(auto)]
+
 ghost use Rattle.std.specs.Prelude.{◌+◌, ◌≤◌, ◌<◌};
 
-use libc::{STDIN_FILENO, STDOUT_FILENO};
+use std::io;
+use std::io::{ErrorKind, Read, Stdin, Stdout};
 
-#[derive(Drop)]
+#[derive(Clone, Copy)]
 struct Row {
     routine: u8,
     x: u64,
@@ -16,19 +19,13 @@ struct Row {
     right: u64,
 }
 
-#[derive(Drop)]
-struct Read {
-    more: bool,
-    row: Row,
-}
-
-#[derive(Drop)]
+#[derive(Clone, Copy)]
 struct Count {
     rows: u64,
     differ: u64,
 }
 
-#[derive(Drop)]
+#[derive(Clone, Copy)]
 struct Tally {
     sin: Count,
     cos: Count,
@@ -61,18 +58,27 @@ fn hex_word(row: &[u8; 70], from: usize) -> u64
     word
 }
 
-fn read_row() -> Read {
+fn row_of(bytes: &[u8; 70]) -> Row {
+    Row {
+        routine: bytes[0],
+        x: hex_word(bytes, 2),
+        y: hex_word(bytes, 19),
+        z: hex_word(bytes, 36),
+        right: hex_word(bytes, 53),
+    }
+}
+
+// The next row, where the input has a whole one left.
+fn read_row(input: &mut Stdin) -> io::Result<Option<Row>> {
     let mut bytes = [0u8; 70];
-    let n = io::read_full(STDIN_FILENO, &mut bytes);
-    Read {
-        more: n == 70,
-        row: Row {
-            routine: bytes[0],
-            x: hex_word(&bytes, 2),
-            y: hex_word(&bytes, 19),
-            z: hex_word(&bytes, 36),
-            right: hex_word(&bytes, 53),
-        },
+    match input.read_exact(&mut bytes) {
+        Ok(()) => Ok(Some(row_of(&bytes))),
+        Err(e) => {
+            if e.kind() == ErrorKind::UnexpectedEof {
+                return Ok(None);
+            }
+            Err(e)
+        }
     }
 }
 
@@ -154,25 +160,13 @@ fn with_answer(t: Tally, row: Row) -> Tally {
     next
 }
 
-fn print_count(name: &[u8], c: Count) {
-    io::write_all(STDOUT_FILENO, name);
-    io::write_all(STDOUT_FILENO, b": ");
-    io::print_decimal(STDOUT_FILENO, c.rows);
-    io::write_all(STDOUT_FILENO, b" rows, ");
-    io::print_decimal(STDOUT_FILENO, c.differ);
-    io::write_all(STDOUT_FILENO, b" differ\n");
+fn print_count(output: Stdout, name: &str, c: Count) -> io::Result<()> {
+    let rows = c.rows;
+    let differ = c.differ;
+    println!(output; "{name}: {rows} rows, {differ} differ")
 }
 
-// One row, and whether there was one.
-fn step(t: Tally, r: Read) -> Tally {
-    if r.more {
-        let row = r.row;
-        return with_answer(t, row);
-    }
-    t
-}
-
-fn replay() -> Tally {
+fn replay(input: &mut Stdin) -> io::Result<Tally> {
     let none = Count { rows: 0, differ: 0 };
     let mut t = Tally {
         sin: none,
@@ -188,28 +182,28 @@ fn replay() -> Tally {
         unknown: none,
     };
     // a proved loop has to end: no input has so many rows
-    let mut turns: u64 = 0xffff_ffff;
-    let mut more = true;
-    while turns > 0 && more {
-        let r = read_row();
-        t = step(t, r);
-        more = r.more;
-        turns -= 1;
+    for _ in 0..0xffff_ffffu64 {
+        match read_row(input)? {
+            Some(row) => t = with_answer(t, row),
+            None => break,
+        }
     }
-    t
+    Ok(t)
 }
 
-fn main() {
-    let t = replay();
-    print_count(b"sin", t.sin);
-    print_count(b"cos", t.cos);
-    print_count(b"sin_cos", t.sin_cos);
-    print_count(b"atan2", t.atan2);
-    print_count(b"acos", t.acos);
-    print_count(b"sqrt", t.sqrt);
-    print_count(b"abs", t.abs);
-    print_count(b"min", t.min);
-    print_count(b"max", t.max);
-    print_count(b"clamp", t.clamp);
-    print_count(b"unknown", t.unknown);
+fn main(rt: HostRuntime) -> io::Result<()> {
+    let mut input = rt.stdin();
+    let output = rt.stdout();
+    let t = replay(&mut input)?;
+    print_count(output, "sin", t.sin)?;
+    print_count(output, "cos", t.cos)?;
+    print_count(output, "sin_cos", t.sin_cos)?;
+    print_count(output, "atan2", t.atan2)?;
+    print_count(output, "acos", t.acos)?;
+    print_count(output, "sqrt", t.sqrt)?;
+    print_count(output, "abs", t.abs)?;
+    print_count(output, "min", t.min)?;
+    print_count(output, "max", t.max)?;
+    print_count(output, "clamp", t.clamp)?;
+    print_count(output, "unknown", t.unknown)
 }

@@ -1,7 +1,7 @@
 // The words of a row as its bytes come: whole numbers in hex digits, parted by one tab.
 
 // How many words are whole, and of the word at hand its value so far and how many digits it has.
-#[derive(Drop)]
+#[derive(Clone, Copy)]
 pub struct Reader {
     pub len: usize,
     pub word: u64,

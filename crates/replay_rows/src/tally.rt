@@ -2,9 +2,10 @@
 ghost use Rattle.std.specs.Prelude.{◌≡◌};
 ghost use Rattle.replay_rows.specs.Counted.{one_more, counted, Counts};
 
-use libc::STDOUT_FILENO;
+use std::io;
+use std::io::Stdout;
 
-#[derive(Drop)]
+#[derive(Clone, Copy)]
 pub enum Row {
     Unread,
     Same,
@@ -55,25 +56,23 @@ pub fn counted(
     }
 }
 
-fn print(text: &[u8]) {
-    io::write_all(STDOUT_FILENO, text);
-}
-
 // The bytes that a name takes in the list below: as many for each, so that the counts stand in a column.
 const NAME: usize = 24;
 
 // The name i of a list.
-fn print_part(names: &[u8], i: usize) {
+fn print_part(output: Stdout, names: &[u8], i: usize) -> io::Result<()> {
     if i < names.len() / NAME {
         let from = i * NAME;
         let to = from + NAME;
-        print(&names[from..to]);
+        return output.write_all(&names[from..to]);
     }
+    Ok(())
 }
 
 // The calls have the numbers of the table in bench/src/bin/samples.rs, and all of them 0. One list, since every call of `print` makes the check dearer.
-fn print_name(call: usize) {
+fn print_name(output: Stdout, call: usize) -> io::Result<()> {
     print_part(
+        output,
         b"all:                    \
           ellipse_point:          \
           ellipse_tangent:        \
@@ -101,32 +100,34 @@ fn print_name(call: usize) {
           circle_tangent_through: \
           fit_earc_tangent:       ",
         call,
-    );
+    )
 }
 
-fn print_counts(call: usize, rows: u64, differ: u64) {
-    print_name(call);
-    io::print_decimal(STDOUT_FILENO, rows);
-    print(b" rows, ");
-    io::print_decimal(STDOUT_FILENO, differ);
-    print(b" differ");
+fn print_counts(output: Stdout, call: usize, rows: u64, differ: u64) -> io::Result<()> {
+    print_name(output, call)?;
+    print!(output; "{rows} rows, {differ} differ")
 }
 
-fn print_call(call: usize, rows: u64, differ: u64) {
-    print_counts(call, rows, differ);
-    print(b"\n");
+fn print_call(output: Stdout, call: usize, rows: u64, differ: u64) -> io::Result<()> {
+    print_counts(output, call, rows, differ)?;
+    println!(output)
 }
 
-fn print_calls(rows: &[u64; 26], differ: &[u64; 26]) {
+fn print_calls(output: Stdout, rows: &[u64; 26], differ: &[u64; 26]) -> io::Result<()> {
     for call in 1..26usize {
-        print_call(call, rows[call], differ[call]);
+        print_call(output, call, rows[call], differ[call])?;
     }
+    Ok(())
 }
 
-pub fn print_all(rows: &[u64; 26], differ: &[u64; 26], unread: u64) {
-    print_calls(rows, differ);
-    print_counts(0, rows[0], differ[0]);
-    print(b", ");
-    io::print_decimal(STDOUT_FILENO, unread);
-    print(b" could not be read\n");
+// Stops at the first write that fails.
+pub fn print_all(
+    output: Stdout,
+    rows: &[u64; 26],
+    differ: &[u64; 26],
+    unread: u64,
+) -> io::Result<()> {
+    print_calls(output, rows, differ)?;
+    print_counts(output, 0, rows[0], differ[0])?;
+    println!(output; ", {unread} could not be read")
 }
