@@ -69,7 +69,7 @@ fn print_part(output: Stdout, names: &[u8], i: usize) -> io::Result<()> {
     Ok(())
 }
 
-// The calls have the numbers of the table in bench/src/bin/samples.rs, and all of them 0. One list, since every call of `print` makes the check dearer.
+// The calls have the numbers of the table in bench/src/bin/samples.rs, and all of them 0. One list, since every call that prints makes the check dearer.
 fn print_name(output: Stdout, call: usize) -> io::Result<()> {
     print_part(
         output,
