@@ -47,7 +47,9 @@ fn print_tally(output: Stdout, t: Tally) -> io::Result<()> {
     let brackets = t.brackets;
     let outside_a = t.outside_a;
     let outside_b = t.outside_b;
-    print!(output; "hits {hits}, brackets {brackets}, outside a {outside_a}, outside b {outside_b}")?;
+    print!(output;
+        "hits {hits}, brackets {brackets}, outside a {outside_a}, outside b {outside_b}"
+    )?;
     let doubles = t.doubles;
     let evaluations = t.evaluations;
     println!(output; ", doubles {doubles}, evaluations {evaluations}")

@@ -120,11 +120,7 @@ fn read_piece(
 }
 
 // A proved loop has to end, and nothing says that the input does. So the turns are counted, up to a number that no run reaches.
-fn read_all(
-    input: &mut Stdin,
-    asked: &mut [u64; 26],
-    differ: &mut [u64; 26],
-) -> io::Result<State> {
+fn read_all(input: &mut Stdin, asked: &mut [u64; 26], differ: &mut [u64; 26]) -> io::Result<State> {
     let mut words = [0u64; 128];
     let mut s = State {
         row: rows::start(),

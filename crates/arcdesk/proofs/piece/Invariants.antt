@@ -7,7 +7,7 @@ use Rattle.arcdesk.proofs.piece.Given as goal
 abbrev pub invariant-loop-at : goal.invariant-loop-at
 invariant-loop-at l = record {
   in_piece : l.at ≤ length l.bytes;
-  knows : Knows (reading_of l.fn.s l.fn.line) (take l.at l.bytes) l.t l.line
+  knows : Knows (reading_of l.fn.s l.fn.line) (take l.at l.bytes) l.t l.line;
 }
 
 -- the bytes that are left
