@@ -12,7 +12,8 @@ ghost use Rattle.desk_stream.specs.Run.{KnowsPart, KnowsSome};
 use desk::{OUT_NEED, ROOM_NEED};
 use desk_lines::KEPT;
 use desk_stream::Stream;
-use std::io::{Read, Stderr, Stdin, Stdout};
+use std::io::{Cursor, Read, Stderr, Stdin, Stdout, Write};
+use std::{io, str};
 
 // Where the lines come from, where the answers go, and where it is said that a read or a write failed.
 #[derive(Clone, Copy)]
@@ -37,6 +38,25 @@ struct Turn {
     well: bool,
 }
 
+// An error's text in the system's words alone: what stands behind them is the error's number.
+fn without_number(text: &[u8]) -> &str {
+    let text = str::from_utf8(text).unwrap_or("");
+    match text.split_once(" (os error ") {
+        Some((words, _)) => words,
+        None => text,
+    }
+}
+
+// A line on standard error: what could not be done, and why. Where it cannot be written, nothing is left to say that on.
+fn fail(errors: Stderr, what: &str, e: io::Error) {
+    let mut text = Cursor::new([0u8; 128]);
+    let _ = write!(text, "{e}");
+    let len = text.position() as usize;
+    let bytes = text.into_inner();
+    let why = without_number(bytes.get(..len).unwrap_or(b""));
+    let _ = eprintln!(errors; "arcdesk: {what}: {why}");
+}
+
 // Whether all was written.
 fn print(to: Streams, out: &[u8], n: usize) -> bool
     requires { n ≤ length out.now }
@@ -44,8 +64,7 @@ fn print(to: Streams, out: &[u8], n: usize) -> bool
     match to.output.write_all(&out[..n]) {
         Ok(()) => true,
         Err(e) => {
-            // Where that line cannot be written either, nothing is left to say it on.
-            let _ = eprintln!(to.errors; "arcdesk: the output cannot be written: {e}");
+            fail(to.errors, "the output cannot be written", e);
             false
         }
     }
@@ -102,7 +121,7 @@ fn read_piece(
             }
         }
         Err(e) => {
-            let _ = eprintln!(streams.errors; "arcdesk: the input cannot be read: {e}");
+            fail(streams.errors, "the input cannot be read", e);
             Turn {
                 stream: s,
                 more: false,
