@@ -24,14 +24,14 @@ struct Streams {
 }
 
 // What is known after a piece, and whether all that its steps left for printing was written.
-#[derive(Drop)]
+#[derive(Clone, Copy)]
 struct Taken {
     stream: Stream,
     written: bool,
 }
 
 // What is known after a turn, whether more may come, and whether nothing has failed.
-#[derive(Drop)]
+#[derive(Clone, Copy)]
 struct Turn {
     stream: Stream,
     more: bool,

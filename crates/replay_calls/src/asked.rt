@@ -18,7 +18,7 @@ pub const LENT_OUT: usize = 3;
 pub const LENT_COUNTS: usize = 4;
 
 // The first inputs as numbers. Where one is a whole number, what its bits would be as a number is not used.
-#[derive(Drop)]
+#[derive(Clone, Copy)]
 pub struct First {
     pub a: f64,
     pub b: f64,
