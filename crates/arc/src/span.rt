@@ -13,7 +13,7 @@ const SPAN_EPS: f64 = 1e-9;
 pub fn norm_tau(v: f64) -> f64
     ensures { result ≡ norm_tau v }
 {
-    let r = v % TAU;
+    let r = sine::remainder(v);
     if r < 0.0 { r + TAU } else { r }
 }
 

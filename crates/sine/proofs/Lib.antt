@@ -4,6 +4,7 @@ pub mod Splits
 pub mod Patterns
 pub mod Remainders
 pub mod Shortcuts
+pub mod ByTurns
 pub mod Cases
 pub mod Signs
 pub mod Outcome

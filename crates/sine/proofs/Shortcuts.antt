@@ -78,7 +78,7 @@ fifty m (negsuc k) hm h =
     below a = let l : suc k < 51 = lt_of_not-le (λ (l : 51 ≤ suc k). not-le_of_lt a (pow_mono {j = suc k} l)) in omega arith
 
 -- the remainder of k is that of x
-same_remainder : (n d k : ℕ) → 0 < d → n * 8 ≡ k * d → k % 7074237752028440 * d ≡ n % (884279719003555 * d) * 8
+pub same_remainder : (n d k : ℕ) → 0 < d → n * 8 ≡ k * d → k % 7074237752028440 * d ≡ n % (884279719003555 * d) * 8
 same_remainder n d k D e =
     let b = 884279719003555 * d in
     let q = n / b in

@@ -36,7 +36,7 @@ pub fn angle(x: f64) -> u64
     if a < 8192.0 {
         return moved(bits, 1025) % 7074237752028440 * 2048;
     }
-    let r = x % TAU;
+    let r = crate::remainder(x);
     if r == r {
         return std::num::truncating_f64_to_u64(fixed::size(r) * 2305843009213693952.0);
     }

@@ -3,14 +3,13 @@
 
 mod angle;
 mod steps;
+mod turns;
 
 ghost use Rattle.std.specs.Prelude.{◌≡◌, ◌*◌, ◌^◌, ◌<◌, false, slice_set};
-ghost use Rattle.std.specs.Float.{binary64};
-ghost use Rattle.std.specs.Float.Ieee.{rem};
-ghost use Rattle.sine.specs.Angle.{tau, units};
+ghost use Rattle.sine.specs.Angle.{units};
 ghost use Rattle.sine.specs.Rule.{sine_units, cosine_units, rounded, ranged, floated, float, sine, cosine};
 
-use scalar::TAU;
+pub use turns::remainder;
 
 // The sizes at 2^61 below which the sine is the remainder, 2^-26, and the cosine is 1, 2^-27.
 const SINE_SMALL: u64 = 34359738368;
@@ -63,12 +62,6 @@ fn turned(n: u64, flip: bool, lent: &mut [f64; 3]) -> f64
     ensures { (result ≡ float (cosine_units n) false) × (lent.new ≡ slice_set lent.old 2 (float (sine_units n) flip)) }
 {
     floats(rounded(n), flip, lent)
-}
-
-fn remainder(x: f64) -> f64
-    ensures { result ≡ rem binary64 x tau }
-{
-    scalar::with_one_nan(x % TAU)
 }
 
 // The cosine of x; its sine goes to the last of the three places lent. Below 2^-26 the sine is the remainder, and below 2^-27 the cosine is 1.

@@ -91,17 +91,18 @@ pub truncating_f64_to_u64-requires-then-r : goal.truncating_f64_to_u64-requires-
 unfolding tau of_bits of_fields odd count_trailing_zeros
 truncating_f64_to_u64-requires-then-r c =
     let x = c.args.x in
-    let cut = far_may_cut x c.if-r.true in
-    rw c.size.ensures (record { lower_bound = cut.0; upper_bound = cut.1 })
+    let e = c.remainder-r.ensures in
+    let cut = far_may_cut x (rw e at c.if-r.true) in
+    rw (c.size.ensures, e) (record { lower_bound = cut.0; upper_bound = cut.1 })
 
 pub returns-then-r : goal.returns-then-r
 unfolding tau units
 returns-then-r c =
     let x = c.args.x in
-    bounded x _ (rw (c.truncating_f64_to_u64-then-r.ensures, c.size.ensures) refl)
+    bounded x _ (rw (c.truncating_f64_to_u64-then-r.ensures, c.size.ensures, c.remainder-r.ensures) refl)
 
 pub returns : goal.returns
 unfolding tau
 returns c =
     let x = c.args.x in
-    bounded x 0 (sym (far_none x c.if-r.false))
+    bounded x 0 (sym (far_none x (rw c.remainder-r.ensures at c.if-r.false)))

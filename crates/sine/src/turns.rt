@@ -1,0 +1,50 @@
+// x % TAU, worked out with whole numbers: in units of 2^-50 TAU is one, and so is each number from TAU on. What the language's own % compiles to is a function of the C library, and
+// a program would ask for its newest version, which an older machine has not.
+ghost use Rattle.std.specs.Prelude.{◌≡◌, ◌*◌, ◌^◌, ◌<◌, ◌%◌};
+ghost use Rattle.std.specs.Float.{binary64};
+ghost use Rattle.std.specs.Float.Ieee.{rem};
+ghost use Rattle.sine.specs.Angle.{tau};
+
+use scalar::TAU;
+
+// TAU in units of 2^-50.
+const TURN: u64 = 7074237752028440;
+
+// digits * 2^places, less whole turns. Ten places at once leave room in a word.
+fn less_turns(digits: u64, places: u64) -> u64
+    requires { digits < 2 ^ 53 }
+    ensures { result ≡ digits * 2 ^ places % 7074237752028440 }
+{
+    let mut r = digits;
+    let mut left = places;
+    while left > 10 {
+        r = (r << 10) % TURN;
+        left -= 10;
+    }
+    (r << left) % TURN
+}
+
+pub fn remainder(x: f64) -> f64
+    ensures { result ≡ rem binary64 x tau }
+{
+    if x != x {
+        return scalar::not_a_number();
+    }
+    let a = scalar::abs(x);
+    if a < TAU {
+        return x;
+    }
+    let bits = f64::to_bits(a);
+    if 0x7ff0_0000_0000_0000 <= bits {
+        return scalar::not_a_number();
+    }
+    let r = less_turns(
+        bits % 0x10_0000_0000_0000 + 0x10_0000_0000_0000,
+        bits / 0x10_0000_0000_0000 - 1025,
+    );
+    let size = (r as f64) * 8.881784197001252e-16;
+    if x < 0.0 {
+        return -size;
+    }
+    size
+}
