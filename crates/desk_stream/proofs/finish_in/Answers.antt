@@ -1,7 +1,6 @@
 -- `finish_in` answers what is left of a line, if anything is.
 use mathlib.Core.Path.{sym, ◌∙◌}
 use Rattle.desk_stream.proofs.Steps.{finish_answered, finish_nothing}
-use borrow.Author.Rules.{rules}
 use Rattle.desk_stream.proofs.finish_in.Goals as goal
 
 pub returns-then-begun : goal.returns-then-begun
