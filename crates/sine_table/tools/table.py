@@ -25,15 +25,16 @@ def write(path, text):
 
 code = """// One more than the sine and the cosine of each node j / 16, at 2^61, to the nearest. Written by crates/sine_table/tools/table.py.
 // A `match` on the index is one load; a constant array would be stored anew at each call.
-ghost use mathlib.Core.Path.{_≡_};
-ghost use lib.ListN.{getD};
-ghost use Rattle·sine_table·specs.specs.Table.{sines, cosines};
+#![tactic(auto)]
+
+ghost use Rattle.std.specs.Prelude.{◌≡◌, get_or};
+ghost use Rattle.sine_table.specs.Table.{sines, cosines};
 """
 for name, numbers in tables.items():
     code += f"""
 // One more than the {name} of j / 16, at 2^61; 0 past the last node.
 pub fn node_{name}(j: u64) -> u64
-    ensures {{ λ r. ⌜ r ≡ getD {name}s j 0 ⌝ }}
+    ensures {{ result ≡ get_or {name}s j 0 }}
 {{
     match j {{
 """
@@ -42,8 +43,7 @@ write("src/lib.rt", code)
 
 spec = """-- The table of the rule: one more than the sine and the cosine of each node j / 16, j from 0 to 101, at 2 ^ 61, to the nearest.
 -- Nothing has to be believed of these numbers: proofs/Nodes.antt tests each against Taylor's series. Written by crates/sine_table/tools/table.py.
-use mathlib.Core.List.{List, [], _∷_}
-use Prim.Native.Nat.{ℕ}
+use Rattle.std.specs.Prelude.{ℕ, List, [], ◌∷◌}
 """
 for name, numbers in tables.items():
     spec += f"\nunfoldable pub {name}s : List ℕ\n{name}s =\n" + "".join(f"    {v} ∷\n" for v in numbers) + "    []\n"
@@ -52,23 +52,20 @@ write("specs/Table.antt", spec)
 for name in tables:
     proof = f"""-- `sine_table::node_{name}` reads the table: each arm is the number at its index, and past the arms there is none.
 -- Written by crates/sine_table/tools/table.py.
-use mathlib.Core.Path.{{_≡_, refl, sym}}
+use mathlib.Core.Path.{{◌≡◌, refl, sym}}
 use Prim.Native.Nat.{{ℕ}}
-use lib.ListN.{{getD, List·getD-eq-default}}
-use Rattle·fixed.proofs.Arms.{{past}}
-use Rattle·sine_table·specs.specs.Table.{{{name}s}}
-use Rattle·sine_table·proofs.proofs.node_{name}.Statement.{{statement}}
-use Rattle·sine_table·proofs.proofs.node_{name}.Tie as tie
+use lib.ListN.{{get_or, get_or-eq_default}}
+use Rattle.fixed.proofs.Arms.{{past}}
+use Rattle.sine_table.specs.Table.{{{name}s}}
+use Rattle.sine_table.proofs.node_{name}.Goals as goal
 
-at : {{j : ℕ}} (k : ℕ) {{v : ℕ}} → j ≡ k → v ≡ getD {name}s k 0 → v ≡ getD {name}s j 0
+at : {{j : ℕ}} (k : ℕ) {{v : ℕ}} → j ≡ k → v ≡ get_or {name}s k 0 → v ≡ get_or {name}s j 0
 at k e f = rw e f
-
-pub node-{name}-spec : {{M : Type 1}} → statement M
-unfolding {name}s
-node-{name}-spec =
-    tie.close
-    (tie.spec
 """
-    proof += "".join(f"    (λ c. at {j} (c .match .keys{j + 1}) refl)\n" for j in range(NODES))
-    proof += f"    (λ c. sym (List·getD-eq-default {name}s 0 (past {NODES} _ (c .match .rest)))))\n"
-    write(f"proofs/node_{name}/Proof.antt", proof)
+
+    def answer(arm, term):
+        return f"\npub returns-{arm} : goal.returns-{arm}\nunfolding {name}s\nreturns-{arm} c = {term}\n"
+
+    proof += "".join(answer(f"in-{j}", f"at {j} c.in-{j}.is refl") for j in range(NODES))
+    proof += answer("in_default", f"sym (get_or-eq_default {name}s 0 (past {NODES} _ c.in_default.in_default-own.rest))")
+    write(f"proofs/node_{name}/Answers.antt", proof)
