@@ -54,7 +54,7 @@
 //! **Nothing of its threads.** The library has no state and keeps no pointer: every call may be made from any thread, and
 //! from many at once.
 //!
-//! **No `std`.** The crate needs `core` and `alloc`, and where the program is linked the C mathematics library's `fmod`.
+//! **No `std`.** The crate needs `core` and `alloc`, and no C library but what copies memory.
 #![no_std]
 #![deny(missing_docs)]
 

@@ -43,7 +43,7 @@ write("src/lib.rt", code)
 
 spec = """-- The table of the rule: one more than the sine and the cosine of each node j / 16, j from 0 to 101, at 2 ^ 61, to the nearest.
 -- Nothing has to be believed of these numbers: proofs/Nodes.antt tests each against Taylor's series. Written by crates/sine_table/tools/table.py.
-use Rattle.std.specs.Prelude.{ℕ, List, [], ◌∷◌}
+use Rattle.std.specs.Prelude.{List, [], ◌∷◌, ℕ}
 """
 for name, numbers in tables.items():
     spec += f"\nunfoldable pub {name}s : List ℕ\n{name}s =\n" + "".join(f"    {v} ∷\n" for v in numbers) + "    []\n"
