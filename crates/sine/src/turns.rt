@@ -1,5 +1,5 @@
-// x % TAU, worked out with whole numbers: in units of 2^-50 TAU is one, and so is each number from TAU on. What the language's own % compiles to is a function of the C library, and
-// a program would ask for its newest version, which an older machine has not.
+// x % TAU, worked out with whole numbers: TAU is a whole number of 2^-50, and so is every number from TAU on. The language's own % compiles to a function of the C library, and
+// a program with it asks for that function's newest version, which an older machine has not.
 ghost use Rattle.std.specs.Prelude.{◌≡◌, ◌*◌, ◌^◌, ◌<◌, ◌%◌};
 ghost use Rattle.std.specs.Float.{binary64};
 ghost use Rattle.std.specs.Float.Ieee.{rem};
@@ -7,7 +7,7 @@ ghost use Rattle.sine.specs.Angle.{tau};
 
 use scalar::TAU;
 
-// TAU in units of 2^-50.
+// How many times 2^-50 TAU is.
 const TURN: u64 = 7074237752028440;
 
 // digits * 2^places, less whole turns. Ten places at once leave room in a word.
