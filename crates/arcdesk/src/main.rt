@@ -92,10 +92,7 @@ fn piece(
         t = after;
         at = r.read;
     }
-    Taken {
-        stream: t,
-        written: written,
-    }
+    Taken { stream: t, written }
 }
 
 fn read_piece(

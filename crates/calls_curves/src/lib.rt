@@ -18,7 +18,7 @@ use hits::{Lengths, Tally};
 fn at(x: f64, y: f64) -> Point
     ensures { result ≡ at x y }
 {
-    Point { x: x, y: y }
+    Point { x, y }
 }
 
 // How many hits two curves may need room for; a depth past the deepest is refused before the room.

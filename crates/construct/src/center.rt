@@ -26,7 +26,7 @@ fn about_center(
     let start = arctan::atan2(u.y, u.x);
     Converted {
         center: svg::turned_back(p1, p2, rot, c),
-        start: start,
+        start,
         end: start + svg::swept(svg::angle(u, v), sweep),
         rx: r.a,
         ry: r.b,

@@ -60,7 +60,7 @@ pub fn answer(table: Table, number: u64, line: Line, room: &mut [f64], out: &mut
 {
     if (room.len() < ROOM_NEED) | (out.len() < OUT_NEED) {
         return Answered {
-            table: table,
+            table,
             printed: 0,
             short: true,
         };
@@ -73,16 +73,16 @@ pub fn answer(table: Table, number: u64, line: Line, room: &mut [f64], out: &mut
         Line::Query(i, j, depth) => {
             let printed = crossings::query(table, i, j, depth, number, room, out);
             Answered {
-                table: table,
-                printed: printed,
+                table,
+                printed,
                 short: false,
             }
         }
         Line::Malformed => {
             let printed = desk_print::refused_line(out, number, MALFORMED_LINE);
             Answered {
-                table: table,
-                printed: printed,
+                table,
+                printed,
                 short: false,
             }
         }

@@ -67,8 +67,8 @@ pub fn keep(table: Table, c: Curve, line: u64, out: &mut [u8]) -> Answered
     }
     let printed = desk_print::refused_line(out, line, no);
     Answered {
-        table: table,
-        printed: printed,
+        table,
+        printed,
         short: false,
     }
 }

@@ -43,15 +43,15 @@ fn arc_of(numbers: Four, turns: Three, marks: Marks) -> Line
         return Line::Malformed;
     };
     Line::Arc(Arc {
-        center: Point { x: x, y: y },
-        radius: radius,
-        radius_b: radius_b,
-        rotation: rotation,
-        start: start,
-        end: end,
-        ccw: ccw,
-        closed: closed,
-        is_ellipse: is_ellipse,
+        center: Point { x, y },
+        radius,
+        radius_b,
+        rotation,
+        start,
+        end,
+        ccw,
+        closed,
+        is_ellipse,
     })
 }
 

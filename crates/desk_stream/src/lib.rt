@@ -80,18 +80,18 @@ fn step_in(
             kept: 0,
         };
         return Progress {
-            stream: stream,
+            stream,
             read: t.read,
             printed: a.printed,
         };
     }
     let stream = Stream {
-        table: table,
+        table,
         number: s.number,
-        kept: kept,
+        kept,
     };
     Progress {
-        stream: stream,
+        stream,
         read: t.read,
         printed: 0,
     }

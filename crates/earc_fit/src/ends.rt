@@ -41,7 +41,7 @@ pub fn fitted_arc(
     let sa = parametric(p1, center, r, turn);
     let ea = parametric(p2, center, r, turn);
     Fitted {
-        center: center,
+        center,
         rx: r.a,
         ry: r.b,
         rotation: rot,

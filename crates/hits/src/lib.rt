@@ -90,7 +90,7 @@ fn turned(h: CurveHit) -> CurveHit
     CurveHit {
         t_a: h.t_b,
         t_b: h.t_a,
-        pos: pos,
+        pos,
     }
 }
 
@@ -108,11 +108,7 @@ pub fn exchanged(c: Crossings) -> Crossings
 pub fn hit_of(t_a: f64, t_b: f64, pos: Point) -> CurveHit
     ensures { result ≡ hit_of t_a t_b pos }
 {
-    CurveHit {
-        t_a: t_a,
-        t_b: t_b,
-        pos: pos,
-    }
+    CurveHit { t_a, t_b, pos }
 }
 
 // The hit i of those in the room.

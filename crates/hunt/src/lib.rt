@@ -43,10 +43,10 @@ fn scan(f: Frame, start: f64, step: f64, closing: u32, n: u32, room: &mut [f64])
         let hi = sample(start, step, next);
         let g_hi = value(f, hi);
         let c = Cell {
-            lo: lo,
-            hi: hi,
-            g_lo: g_lo,
-            g_hi: g_hi,
+            lo,
+            hi,
+            g_lo,
+            g_hi,
             closes: next == closing,
         };
         t = visit(f, c, t, room);

@@ -9,8 +9,8 @@ pub fn framed(a: Arc, b: Arc) -> Frame
     ensures { result ≡ frame a b }
 {
     Frame {
-        a: a,
-        b: b,
+        a,
+        b,
         turn_a: sine::sin_cos(a.rotation),
         turn_b: sine::sin_cos(b.rotation),
         radii: arc::arc_radii(b),

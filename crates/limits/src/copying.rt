@@ -84,10 +84,10 @@ pub fn hunt(a: Arc, b: Arc, depth: u32, room: &mut [f64]) -> Tally
         let hi = hunt::sample(start, step, next);
         let g_hi = hunt_bracket::value(f, hi);
         let c = Cell {
-            lo: lo,
-            hi: hi,
-            g_lo: g_lo,
-            g_hi: g_hi,
+            lo,
+            hi,
+            g_lo,
+            g_hi,
             closes: next == closing,
         };
         s = visit(f, c, s, room);

@@ -3,15 +3,15 @@ use arcs::{Arc, Point};
 
 pub fn whole(center: Point, radius: f64, is_ellipse: bool) -> Arc {
     Arc {
-        center: center,
-        radius: radius,
+        center,
+        radius,
         radius_b: radius,
         rotation: 0.0,
         start: 0.0,
         end: 0.0,
         ccw: true,
         closed: true,
-        is_ellipse: is_ellipse,
+        is_ellipse,
     }
 }
 

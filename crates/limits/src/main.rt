@@ -70,7 +70,7 @@ fn ask_distance(output: Stdout, words: &str, x: f64, y: f64) -> io::Result<()> {
     print_number(
         output,
         words,
-        arcs::point_to_segment_dist(Point { x: x, y: y }, origin(), one),
+        arcs::point_to_segment_dist(Point { x, y }, origin(), one),
     )
 }
 

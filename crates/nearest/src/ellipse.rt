@@ -20,10 +20,7 @@ fn nearest_of(p: Point, sp: Point, ep: Point, nearest: Point) -> Near
     if de < dist {
         return Near { dist: de, pos: ep };
     }
-    Near {
-        dist: dist,
-        pos: nearest,
-    }
+    Near { dist, pos: nearest }
 }
 
 fn span(a: Arc) -> f64

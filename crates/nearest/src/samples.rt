@@ -29,7 +29,7 @@ fn closer(a: Arc, turn: SinCos, p: Point, t: f64, best: Best) -> Best
 {
     let d = points::squared_dist(p, points::point(a, turn, t));
     if d < best.d {
-        return Best { t: t, d: d };
+        return Best { t, d };
     }
     best
 }

@@ -81,7 +81,7 @@ fn step(
         let unread = tally::counted(whole(ended, words), words[0], s.unread, asked, differ);
         return State {
             row: rows::start(),
-            unread: unread,
+            unread,
             more: true,
         };
     }

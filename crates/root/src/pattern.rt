@@ -34,7 +34,7 @@ fn subnormal(bits: u64) -> Number
     let zeros = u64::leading_zeros(bits) as u64 - 11;
     let digits = bits << zeros;
     Number {
-        digits: digits,
+        digits,
         scale: 1074 - zeros,
         like: digits % 0x10_0000_0000_0000 + (1023 + zeros % 2) * 0x10_0000_0000_0000,
     }

@@ -24,13 +24,13 @@ fn turn(d: Digits) -> Digits
         return Digits {
             root: 2 * d.root + 1,
             rest: rest - tried,
-            word: word,
+            word,
         };
     }
     Digits {
         root: 2 * d.root,
-        rest: rest,
-        word: word,
+        rest,
+        word,
     }
 }
 
@@ -43,7 +43,7 @@ fn by_digits(word: u64) -> u64
     let mut d = Digits {
         root: 0,
         rest: 0,
-        word: word,
+        word,
     };
     let mut i = 0u32;
     while i < 53u32 {

@@ -89,10 +89,7 @@ pub fn sin_cos(x: f64) -> SinCos
 {
     let mut lent = [0.0; 3];
     let cos = cos_beside_sin(x, &mut lent);
-    SinCos {
-        sin: lent[2],
-        cos: cos,
-    }
+    SinCos { sin: lent[2], cos }
 }
 
 pub fn sin(x: f64) -> f64
