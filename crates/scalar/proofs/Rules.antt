@@ -19,6 +19,14 @@ use Rattle.scalar.specs.Angles.{tau, pi, frac_pi2}
 use Rattle.scalar.specs.Extremes.{minimum, maximum}
 use Rattle.scalar.specs.Clamp.{no_range, clamp}
 
+-- ---- the one NaN
+
+pub nan_is : (x : Float) → is_nan x ≡ true → x ≡ nan
+unfolding is_nan
+nan_is nan h = refl
+nan_is (inf s) h = absurd (true≢false (sym h))
+nan_is (fin s m e) h = absurd (true≢false (sym h))
+
 -- ---- a NaN is below nothing, and nothing below it
 
 nan_lt : (x : Float) → lt nan x ≡ false
@@ -51,9 +59,9 @@ clamp_range nan low high h = sym (ap (λ (b : Bool). cond b high nan) (lt_nan hi
 clamp_range (inf s) low high h = ap (λ (b : Bool). cond b nan (cond (lt (inf s) low) low (cond (lt high (inf s)) high (inf s)))) (range_test low high true h)
 clamp_range (fin s m e) low high h = ap (λ (b : Bool). cond b nan (cond (lt (fin s m e) low) low (cond (lt high (fin s m e)) high (fin s m e)))) (range_test low high true h)
 
-pub clamp-no_range : (x low high : Float) → le low high ≡ false → clamp x low high ≡ nan
+pub clamp_no_range : (x low high : Float) → le low high ≡ false → clamp x low high ≡ nan
 unfolding clamp
-clamp-no_range x low high h = go (is_nan x) (no_range low high) (range_test low high false h)
+clamp_no_range x low high h = go (is_nan x) (no_range low high) (range_test low high false h)
   where
     go : (a b : Bool) → b ≡ true → cond (a || b) nan (cond (lt x low) low (cond (lt high x) high x)) ≡ nan
     go true b e = refl
@@ -97,17 +105,17 @@ pub minimum_beside_nan : (x y : Float) → is_nan y ≡ true → minimum x y ≡
 unfolding minimum
 minimum_beside_nan x y h = beside_nan x y (cond (lt x y) x y) h
 
-pub minimum-number : (x y : Float) → is_nan y ≡ false → minimum x y ≡ cond (lt x y) x y
+pub minimum_number : (x y : Float) → is_nan y ≡ false → minimum x y ≡ cond (lt x y) x y
 unfolding minimum
-minimum-number x y h = by_comparison x y (lt x y) h (λ e. ap (λ (z : Float). lt z y) e ∙ nan_lt y)
+minimum_number x y h = by_comparison x y (lt x y) h (λ e. ap (λ (z : Float). lt z y) e ∙ nan_lt y)
 
 pub maximum_beside_nan : (x y : Float) → is_nan y ≡ true → maximum x y ≡ x
 unfolding maximum
 maximum_beside_nan x y h = beside_nan x y (cond (lt y x) x y) h
 
-pub maximum-number : (x y : Float) → is_nan y ≡ false → maximum x y ≡ cond (lt y x) x y
+pub maximum_number : (x y : Float) → is_nan y ≡ false → maximum x y ≡ cond (lt y x) x y
 unfolding maximum
-maximum-number x y h = by_comparison x y (lt y x) h (λ e. ap (lt y) e ∙ lt_nan y)
+maximum_number x y h = by_comparison x y (lt y x) h (λ e. ap (lt y) e ∙ lt_nan y)
 
 -- of two zeros the second
 pub minimum_zeros : (s t : Bool) → minimum (fin s 0 (pos 0)) (fin t 0 (pos 0)) ≡ fin t 0 (pos 0)
