@@ -3,8 +3,9 @@ use mathlib.Core.Path.{◌≡◌, ap, ◌∙◌, subst}
 use Prim.Native.Nat.{ℕ, zero, suc, ◌+◌, ◌-◌, ◌*◌, ◌/◌, ◌%◌, ◌^◌, ◌≤◌, ◌<◌}
 use native.Mathlib.Omega.{arith}
 use native.Mathlib.Nat.{lt_irrefl}
-use mathlib.Core.Bool.{Bool, true, false, not, cond}
+use mathlib.Core.Bool.{Bool, true, false, not}
 use lib.Dec.{T, leb, ltb, leb→le, nleb→lt, ltb→lt, nltb→le}
+use Rattle.std.specs.Int.{from_bool}
 use Rattle.root.specs.Steps.{Nearest}
 use Rattle.laws.proofs.Powers.{mul-lt-pow}
 
@@ -15,9 +16,6 @@ high_half s h = omega arith
 
 pub low_half : (s : ℕ) → s % 2 ^ 27 < 2 ^ 27
 low_half s = omega arith
-
-pub high-square : (s : ℕ) → s < 2 ^ 53 → s / 2 ^ 27 * (s / 2 ^ 27) < 2 ^ 52
-high-square s h = mul-lt-pow 26 26 (high_half s h) (high_half s h)
 
 pub cross : (s : ℕ) → s < 2 ^ 53 → 2 * (s / 2 ^ 27) * (s % 2 ^ 27) < 2 ^ 54
 cross s h = mul-lt-pow 27 27 (twice (s / 2 ^ 27) (high_half s h)) (low_half s)
@@ -39,52 +37,28 @@ square-of s = ap (λ (x : ℕ). x * x) (whole s) ∙ halves (s / 2 ^ 27) (s % 2 
     halves : (h l : ℕ) → (h * 2 ^ 27 + l) * (h * 2 ^ 27 + l) ≡ h * h * 2 ^ 54 + 2 * h * l * 2 ^ 27 + l * l
     halves h l = omega arith
 
-steps : (top rest hh hl ll a b c : ℕ) → a + hh ≡ top + 1 → b + hl ≡ a * 2 ^ 27 + 0x1800_0000 → c + ll ≡ b * 2 ^ 27 + rest
+steps : (top rest hh hl ll a b c : ℕ) → a + hh ≡ top + 1 → b + hl ≡ a * 2 ^ 27 + 2 ^ 28 → c + ll ≡ (b + 2 ^ 27) * 2 ^ 27 + rest
     → c + (hh * 2 ^ 54 + hl * 2 ^ 27 + ll) ≡ top * 2 ^ 54 + rest + 2 ^ 56
 steps top rest hh hl ll a b c x y z = omega arith
 
 number : (w : ℕ) → w / 2 ^ 12 * 2 ^ 54 + w % 2 ^ 12 * 2 ^ 42 ≡ w * 2 ^ 42
 number w = omega arith
 
-back : (x y : ℕ) → y ≤ x → x - y + y ≡ x
-back x y h = omega arith
+-- a and b as the code works them out, and the third from them
+module _ (w s a b : ℕ) (x : a + s / 2 ^ 27 * (s / 2 ^ 27) ≡ w / 2 ^ 12 + 1) (y : b + 2 * (s / 2 ^ 27) * (s % 2 ^ 27) ≡ a * 2 ^ 27 + 2 ^ 28) where
+  abbrev pub over : ℕ
+  over = (b + 2 ^ 27) * 2 ^ 27 + w % 2 ^ 12 * 2 ^ 42 - s % 2 ^ 27 * (s % 2 ^ 27)
 
-split : (p q : ℕ) → q + 2 ^ 27 ≤ p → (q ≤ p) × (2 ^ 27 ≤ p - q)
-split p q h = (omega arith, omega arith)
-
-covers : (b rest ll : ℕ) → 2 ^ 27 ≤ b → ll < 2 ^ 54 → ll ≤ b * 2 ^ 27 + rest
-covers b rest ll h l = omega arith
-
--- what the code works out
-abbrev pub one : ℕ → ℕ → ℕ
-one w s = w / 2 ^ 12 + 1 - s / 2 ^ 27 * (s / 2 ^ 27)
-
-abbrev pub two : ℕ → ℕ → ℕ
-two w s = one w s * 2 ^ 27 + 0x1800_0000 - 2 * (s / 2 ^ 27) * (s % 2 ^ 27)
-
-abbrev pub three : ℕ → ℕ → ℕ
-three w s = two w s * 2 ^ 27 + w % 2 ^ 12 * 2 ^ 42 - s % 2 ^ 27 * (s % 2 ^ 27)
-
-module _ (w s : ℕ) (y : 2 * (s / 2 ^ 27) * (s % 2 ^ 27) + 2 ^ 27 ≤ one w s * 2 ^ 27 + 0x1800_0000) where
-  pub room : s % 2 ^ 27 * (s % 2 ^ 27) ≤ two w s * 2 ^ 27 + w % 2 ^ 12 * 2 ^ 42
-  room = covers (two w s) (w % 2 ^ 12 * 2 ^ 42) (s % 2 ^ 27 * (s % 2 ^ 27)) (split (one w s * 2 ^ 27 + 0x1800_0000) (2 * (s / 2 ^ 27) * (s % 2 ^ 27)) y).1 (low_square s)
-
-  pub excess : s / 2 ^ 27 * (s / 2 ^ 27) ≤ w / 2 ^ 12 + 1 → three w s + s * s ≡ w * 2 ^ 42 + 2 ^ 56
-  excess x =
-      let h = s / 2 ^ 27 in
+  pub excess : b < 2 ^ 30 - 2 ^ 27 → (over < 2 ^ 62) × (over + s * s ≡ w * 2 ^ 42 + 2 ^ 56)
+  excess h =
       let l = s % 2 ^ 27 in
-      ap (λ (z : ℕ). three w s + z) (square-of s)
-      ∙ steps (w / 2 ^ 12) (w % 2 ^ 12 * 2 ^ 42) (h * h) (2 * h * l) (l * l) (one w s) (two w s) (three w s)
-      (back (w / 2 ^ 12 + 1) (h * h) x)
-      (back (one w s * 2 ^ 27 + 0x1800_0000) (2 * h * l) (split (one w s * 2 ^ 27 + 0x1800_0000) (2 * h * l) y).0)
-      (back (two w s * 2 ^ 27 + w % 2 ^ 12 * 2 ^ 42) (l * l) room)
-      ∙ ap (λ (z : ℕ). z + 2 ^ 56) (number w)
-
-pub three-lt : (w s : ℕ) → two w s < 2 ^ 30 → three w s < 2 ^ 62
-three-lt w s h = below (two w s) w (s % 2 ^ 27 * (s % 2 ^ 27)) h
-  where
-    below : (b w ll : ℕ) → b < 2 ^ 30 → b * 2 ^ 27 + w % 2 ^ 12 * 2 ^ 42 - ll < 2 ^ 62
-    below b w ll h = omega arith
+      let ll : l * l < 2 ^ 54 = low_square s in
+      let whole : over + l * l ≡ (b + 2 ^ 27) * 2 ^ 27 + w % 2 ^ 12 * 2 ^ 42 = omega arith in (
+        omega arith,
+        ap (λ (z : ℕ). over + z) (square-of s)
+            ∙ steps (w / 2 ^ 12) (w % 2 ^ 12 * 2 ^ 42) (s / 2 ^ 27 * (s / 2 ^ 27)) (2 * (s / 2 ^ 27) * l) (l * l) a b over x y whole
+            ∙ ap (λ (z : ℕ). z + 2 ^ 56) (number w),
+      )
 
 -- ---- the guess, or the number before or after it
 
@@ -99,13 +73,13 @@ module _ (n c : ℕ) where
   one_more_lem s e h g = record { above = omega arith; below = omega arith }
 
   pub choice : (s : ℕ) → 0 < s → c + s * s ≡ n + 2 ^ 56 → 2 ^ 56 + 2 < c + 3 * s → c ≤ 2 ^ 56 + 2 + 3 * s
-      → Nearest n (s + cond (ltb (2 ^ 56 + s) c) 1 0 - cond (leb (c + s) (2 ^ 56)) 1 0)
+      → Nearest n (s + from_bool (ltb (2 ^ 56 + s) c) - from_bool (leb (c + s) (2 ^ 56)))
   choice zero p e h g = absurd (lt_irrefl 0 p)
   choice (suc s) p e h g =
       go (ltb (2 ^ 56 + suc s) c) (leb (c + suc s) (2 ^ 56)) (ltb→lt (2 ^ 56 + suc s) c) (nltb→le (2 ^ 56 + suc s) c) (leb→le (c + suc s) (2 ^ 56)) (nleb→lt (c + suc s) (2 ^ 56))
     where
       go : (a b : Bool) → (T a → 2 ^ 56 + suc s < c) → (T (not a) → c ≤ 2 ^ 56 + suc s) → (T b → c + suc s ≤ 2 ^ 56) → (T (not b) → 2 ^ 56 < c + suc s)
-          → Nearest n (suc s + cond a 1 0 - cond b 1 0)
+          → Nearest n (suc s + from_bool a - from_bool b)
       go true true x y z w = absurd (both (x tt) (z tt))
         where
           both : 2 ^ 56 + suc s < c → c + suc s ≤ 2 ^ 56 → ⊥

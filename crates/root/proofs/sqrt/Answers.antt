@@ -5,12 +5,9 @@ use lib.Ieee.{binary64, fits}
 use lib.Ieee.Bits.{of_bits-to_bits}
 use Rattle.root.specs.SquareRoot.{square_root}
 use Rattle.laws.proofs.Pattern.{finite_pattern}
-use Rattle.laws.proofs.Positive.{above_real, above_some, above_all}
+use Rattle.laws.proofs.Positive.{above_some, above_all}
 use Rattle.root.proofs.Edges.{root_of_infinity, root_of-zero, root_of-none}
 use Rattle.root.proofs.sqrt.Goals as goal
-
-pub float_to_bits-bits : goal.float_to_bits-bits
-float_to_bits-bits c = above_real c.args.x c.if-x.true
 
 pub root-requires : goal.root-requires
 root-requires c =
