@@ -15,25 +15,24 @@ struct Number {
 }
 
 impl Number {
-    // The number of a pattern. The leading digit of a normal one is not written. A subnormal one has
-    // fewer digits, which move up.
+    // The number of a pattern. A subnormal one has fewer digits, which move up.
     fn of(bits: u64) -> Self
         requires { (0 < bits) × (bits < 0x7ff0_0000_0000_0000) }
         ensures { Spread bits result.digits result.scale result.like }
     {
-        if bits >= 0x10_0000_0000_0000 {
+        if bits < 0x10_0000_0000_0000 {
+            let zeros = u64::leading_zeros(bits) as u64 - 11;
+            let digits = bits << zeros;
             return Number {
-                digits: scalar::digits_of(bits),
-                scale: scalar::field(bits) + 1073,
-                like: bits,
+                digits,
+                scale: 1074 - zeros,
+                like: digits % 0x10_0000_0000_0000 + (1023 + zeros % 2) * 0x10_0000_0000_0000,
             };
         }
-        let zeros = u64::leading_zeros(bits) as u64 - 11;
-        let digits = bits << zeros;
         Number {
-            digits,
-            scale: 1074 - zeros,
-            like: digits % 0x10_0000_0000_0000 + (1023 + zeros % 2) * 0x10_0000_0000_0000,
+            digits: scalar::digits_of(bits),
+            scale: scalar::field(bits) + 1073,
+            like: bits,
         }
     }
 }

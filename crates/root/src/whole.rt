@@ -57,18 +57,28 @@ fn by_digits(word: u64) -> u64
 
 // By how much word * 2^42 is above the guess's square, and 2^56 more. The square, of up to 106 digits,
 // is taken from the number in three steps of 27 digits each, with a margin so that none comes out below
-// zero. Where one comes out large the guess is far off, and there is no answer.
+// zero. Where one comes out large the guess is far off, and there is no answer. The differences are
+// tested by hand, since `checked_sub` compiles to two moves more on the way that every root waits for.
 fn excess(word: u64, guess: u64) -> Option<u64>
     requires { guess < 2 ^ 53 }
     ensures { IfSome result (λ over. (over < 2 ^ 62) × (over + guess * guess ≡ word * 2 ^ 42 + 2 ^ 56)) }
 {
     let high = guess / 0x800_0000;
     let low = guess % 0x800_0000;
-    let first = (word / 0x1000 + 1).checked_sub(high * high)?;
+    let top = word / 0x1000 + 1;
+    if high * high > top {
+        return None;
+    }
+    let first = top - high * high;
     if first >= 0x4000_0000 {
         return None;
     }
-    let second = (first * 0x800_0000 + 0x1000_0000).checked_sub(2 * high * low)?;
+    let middle = first * 0x800_0000 + 0x1000_0000;
+    let cross = 2 * high * low;
+    if cross > middle {
+        return None;
+    }
+    let second = middle - cross;
     if second >= 0x3800_0000 {
         return None;
     }

@@ -1,7 +1,11 @@
 -- `root::whole::excess` meets its contract, by the laws of `Guess`.
-use Rattle.std.proofs.Common.{arith}
+use Rattle.std.proofs.Common.{◌+◌, ◌-◌, ◌*◌, ◌/◌, ◌%◌, ◌^◌, arith}
 use Rattle.root.proofs.Guess.{excess}
 use Rattle.root.proofs.whole.excess.Goals as goal
 
 pub returns : goal.returns
-returns c = excess c.args.word c.args.guess c.in_ok-first.first c.in_ok-second.second (omega arith) (omega arith) (omega arith)
+returns c =
+    let s = c.args.guess in
+    let first = c.args.word / 2 ^ 12 + 1 - s / 2 ^ 27 * (s / 2 ^ 27) in
+    let second = first * 2 ^ 27 + 2 ^ 28 - 2 * (s / 2 ^ 27) * (s % 2 ^ 27) in
+    excess c.args.word s first second (omega arith) (omega arith) c.if-second-ge939524096.false
