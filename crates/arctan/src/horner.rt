@@ -4,11 +4,12 @@ ghost use Rattle.std.specs.Prelude.{◌≡◌, ◌≤◌, pos};
 ghost use Rattle.std.specs.Float.{binary64};
 ghost use Rattle.std.specs.Float.Ieee.{of_int};
 ghost use Rattle.arctan.specs.Sizes.{Coefficient, Number, Rest, Fit};
-ghost use Rattle.arctan.specs.Rule.{rough, fine_step, rough_step, last_step, series_at, less_of, float_of};
+ghost use Rattle.arctan.specs.Rule.{rough, fine_step, rough_step, last_step, series_at, float_of};
 
 use crate::table::Row;
 
 // x * y / 2^62, by the upper parts alone.
+#[tactic(auto, unfolding(crate::specs::Rule::rough))]
 fn rough(x: u64, y: u64) -> u64
     requires { Number x × Rest y }
     ensures { result ≡ rough x y }
@@ -45,14 +46,6 @@ pub fn series(r: Row, h: u64) -> u64
     r.a0 + fixed::high(q, h)
 }
 
-// c - n where t, and n otherwise.
-pub fn less_if(t: bool, c: u64, n: u64) -> u64
-    requires { n ≤ c }
-    ensures { result ≡ less_of t c n }
-{
-    if t { c - n } else { n }
-}
-
 // The number nearest to n, as std's own has it, but for the type of the lower half: where both are u64 the compiler for x86-64 casts the two as one vector, which takes longer.
 fn nearest(n: u64) -> f64
     ensures { result ≡ of_int binary64 (pos n) }
@@ -61,6 +54,7 @@ fn nearest(n: u64) -> f64
 }
 
 // n / 2^61, rounded once.
+#[tactic(auto, unfolding(crate::specs::Rule::float_of))]
 pub fn float(n: u64) -> f64
     ensures { result ≡ float_of n }
 {

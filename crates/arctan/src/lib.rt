@@ -4,9 +4,9 @@
 mod horner;
 mod table;
 
-ghost use Rattle.std.specs.Prelude.{◌≡◌, ◌<◌, ◌≤◌, min};
+ghost use Rattle.std.specs.Prelude.{◌≡◌, ◌<◌, ◌≤◌};
 ghost use Rattle.arctan.specs.Sizes.{InUnit};
-ghost use Rattle.laws.specs.Kind.{negative, is_infinite};
+ghost use Rattle.laws.specs.Kind.{negative};
 ghost use Rattle.arctan.specs.Rule.{place_of, arc_of, angle_of, steep_of, smaller, larger, edge_size, edge_of, arctangent};
 
 use scalar::{FRAC_PI_2, PI};
@@ -28,12 +28,6 @@ const PI_UNITS: u64 = 7244019458077122560;
 // 1/32 at 2^62, the width of a row's cell: 2^57.
 const CELL: u64 = 0x200_0000_0000_0000;
 
-fn up_to_63(n: u64) -> u64
-    ensures { (result ≡ min n 63) × (result < 64) }
-{
-    if n < 63 { n } else { 63 }
-}
-
 // The whole part of 2^62 u: the 53 digits of u with ten zeros behind them, less those that its exponent puts below the point. A subnormal
 // number's digits are read wrong, and all are dropped. There is no branch, so that the table is read by a load.
 fn place(u: f64) -> u64
@@ -41,9 +35,8 @@ fn place(u: f64) -> u64
     ensures { result ≡ place_of u }
 {
     let bits = f64::to_bits(u);
-    let digits = bits % 0x10_0000_0000_0000 + 0x10_0000_0000_0000;
-    let dropped = up_to_63(1023 - bits / 0x10_0000_0000_0000);
-    digits * 1024 >> dropped
+    let dropped = (1023 - scalar::field(bits)).min(63);
+    scalar::digits_of(bits) * 1024 >> dropped
 }
 
 // The arctangent of u in units of 2^-61.
@@ -61,8 +54,9 @@ fn angle(y: f64, x: f64, steep: bool, u: f64) -> f64
     requires { InUnit u }
     ensures { result ≡ angle_of y x steep u }
 {
-    let n = horner::less_if(steep, FRAC_PI_2_UNITS, arc(u));
-    let n = horner::less_if(x < 0.0, PI_UNITS, n);
+    let n = arc(u);
+    let n = fixed::pick(steep, FRAC_PI_2_UNITS - n, n);
+    let n = fixed::pick(x < 0.0, PI_UNITS - n, n);
     let c = horner::float(n);
     fixed::pick(y < 0.0, -c, c)
 }
@@ -74,21 +68,15 @@ fn is_negative(x: f64) -> bool
     (x < 0.0) | ((x == 0.0) & (1.0 / x < 0.0))
 }
 
-fn is_infinite(x: f64) -> bool
-    ensures { result ≡ is_infinite x }
-{
-    (LARGEST < x) | (x < -LARGEST)
-}
-
 fn edge_size(y: f64, x: f64) -> f64
     ensures { result ≡ edge_size y x }
 {
     let behind = is_negative(x);
     let level = fixed::pick(behind, PI, 0.0);
     let corner = fixed::pick(behind, THREE_QUARTERS_PI, FRAC_PI_4);
-    let far = is_infinite(x);
+    let far = x.is_infinite();
     fixed::pick(
-        is_infinite(y),
+        y.is_infinite(),
         fixed::pick(far, corner, FRAC_PI_2),
         fixed::pick(far | (y == 0.0), level, FRAC_PI_2),
     )
@@ -98,7 +86,7 @@ fn edge_size(y: f64, x: f64) -> f64
 fn edge(y: f64, x: f64) -> f64
     ensures { result ≡ edge_of y x }
 {
-    if (y != y) | (x != x) {
+    if y.is_nan() | x.is_nan() {
         return scalar::not_a_number();
     }
     let a = edge_size(y, x);

@@ -2,7 +2,7 @@
 use Rattle.std.proofs.Common.{◌≡◌, ℕ, suc, ◌+◌, ◌-◌, ◌*◌, ◌/◌, ◌%◌, ◌^◌, ◌<◌, ◌≤◌, Bool, true, false, T, ℤ, pos, negsuc, sym, refl, ap, ◌∙◌, subst, true≢false, le_trans, lt_of_lt_of_le, le_of_lt, mod-lt, mod-eq_of_lt, mul_assoc, mul_comm, add-mul, lt_of_mul-lt-mul_right, mul-pos, lt_of_not-le, div-add-mod', zero-mul, mul-one, mul_right_comm, not-le_of_lt, le_of_mul-le-mul_right, mul-div_cancel, mul_left_comm, arith, lit<, lit≤, pow_mono, pow-add, shl_lt, ltb-false, ltb-true}
 use mathlib.Core.Bool.{false≢true}
 use lib.Count.{count_trailing_zeros}
-use lib.Ieee.{Float, nan, inf, fin, binary64, up, down, round, odd, of_bits, of_fields, neg, mul, rem, lt, eq, to_bits, fits}
+use lib.Ieee.{Float, is_nan, nan, inf, fin, binary64, up, down, round, odd, of_bits, of_fields, neg, mul, rem, lt, to_bits, fits}
 use lib.Ieee.Fits.{down_pos}
 use lib.Ieee.Exact.{HasValue, round_exact}
 use lib.Ieee.Scale.{round_same}
@@ -17,7 +17,7 @@ use Rattle.fixed.proofs.Sizes.{by_sign}
 use Rattle.sine.specs.Angle.{tau}
 use Rattle.sine.specs.Angle as angle
 use Rattle.sine.proofs.Patterns.{field-most, field-least, by_bits}
-use Rattle.sine.proofs.Remainders.{Remainder, remainder, eq_self, units_floor, units_may_cut, units_nan, units-abs}
+use Rattle.sine.proofs.Remainders.{Remainder, remainder, units_floor, units_may_cut, units-abs}
 
 -- the whole part of a remainder whose value a / c is known
 value-units : (s : Bool) (r : Float) → Remainder s r → (a c : ℕ) → 0 < c → HasValue r s a c → angle.units r ≡ a * 2 ^ 61 / c
@@ -201,18 +201,10 @@ module _ (x : Float) (fit : T (fits binary64 (abs x))) where
           )
 
 -- beyond: a remainder that is a number
-pub far_may_cut : (x : Float) → eq (rem binary64 x tau) (rem binary64 x tau) ≡ true → MayCut (mul binary64 (size_of (rem binary64 x tau)) (fin false 1 (pos 61)))
-unfolding rem eq
-far_may_cut nan t = absurd (false≢true t)
-far_may_cut (inf s) t = absurd (false≢true t)
+pub far_may_cut : (x : Float) → is_nan (rem binary64 x tau) ≡ false → MayCut (mul binary64 (size_of (rem binary64 x tau)) (fin false 1 (pos 61)))
+unfolding rem is_nan
+far_may_cut nan t = absurd (true≢false t)
+far_may_cut (inf s) t = absurd (true≢false t)
 far_may_cut (fin s m e) t =
     let a = remainder s m e in
     subst (λ (r : Float). MayCut (mul binary64 (size_of r) (fin false 1 (pos 61)))) (sym a.is) (units_may_cut s a.m a.e a.fit a.small)
-
-pub far_none : (x : Float) → eq (rem binary64 x tau) (rem binary64 x tau) ≡ false → angle.units (rem binary64 x tau) ≡ 0
-unfolding rem eq
-far_none nan t = units_nan
-far_none (inf s) t = units_nan
-far_none (fin s m e) t =
-    let a = remainder s m e in
-    absurd (true≢false (sym (eq_self s a.m a.e) ∙ subst (λ (r : Float). eq r r ≡ false) a.is t))

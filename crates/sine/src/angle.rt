@@ -14,7 +14,7 @@ fn moved(bits: u64, low: u64) -> u64
     requires { (low ≤ field bits) × (field bits < low + 12) }
     ensures { result ≡ digits_of bits * 2 ^ (field bits - low) }
 {
-    (bits % 0x10_0000_0000_0000 + 0x10_0000_0000_0000) << (bits / 0x10_0000_0000_0000 - low)
+    scalar::digits_of(bits) << (scalar::field(bits) - low)
 }
 
 // The size of x % TAU at 2^61. Below TAU the remainder is x, and from 2^-9 on all its digits stand above the unit then; below 8192 it is taken in whole numbers of 2^-50, which x and
@@ -22,7 +22,7 @@ fn moved(bits: u64, low: u64) -> u64
 pub fn angle(x: f64) -> u64
     ensures { (result ≡ units (rem binary64 x tau)) × (result < 203 * 2 ^ 56) }
 {
-    if x != x {
+    if x.is_nan() {
         return 0;
     }
     let a = scalar::abs(x);
@@ -37,10 +37,10 @@ pub fn angle(x: f64) -> u64
         return moved(bits, 1025) % 7074237752028440 * 2048;
     }
     let r = crate::remainder(x);
-    if r == r {
-        return std::num::truncating_f64_to_u64(fixed::size(r) * 2305843009213693952.0);
+    if r.is_nan() {
+        return 0;
     }
-    0
+    std::num::truncating_f64_to_u64(fixed::size(r) * 2305843009213693952.0)
 }
 
 // An angle's nearest node, as its row of the table, whether the angle lies below it, and one less the cosine and the sine of the rest.

@@ -23,7 +23,7 @@ pub struct SinCos {
     pub cos: f64,
 }
 
-// 3 more than the sine and the cosine of an angle, at 2^53.
+// 3 more than the sine and the cosine of an angle, at 2^53. One generic type with `SinCos` would be no plainer: that is the name by which the library gives both.
 #[derive(Clone, Copy)]
 struct Units {
     sine: u64,

@@ -5,14 +5,16 @@ ghost use Rattle.sine.specs.Short.{bend, lack, short_sine, short_versine};
 ghost use Rattle.sine.specs.Rule.{turned, rounded, ranged, floated};
 
 // How far the angle is from a node, at 2^66.
+#[tactic(auto, unfolding(crate::specs::Node::apart))]
 pub fn apart(n: u64, c: u64) -> u64
     requires { (n ≤ c + 2 ^ 56) × (c ≤ n + 2 ^ 56) }
     ensures { result ≡ apart n c }
 {
-    if n < c { (c - n) * 32 } else { (n - c) * 32 }
+    n.abs_diff(c) * 32
 }
 
 // w * (k - w * c / s) / 2^32.
+#[tactic(auto, unfolding(crate::specs::Short::bend))]
 fn bend(k: u64, c: u64, s: u64, w: u64) -> u64
     requires { (w ≤ 2 ^ 32) × (k < 2 ^ 32) × (c < 2 ^ 32) × (2 ^ 32 * c ≤ k * s) × (0 < s) }
     ensures { result ≡ bend k c s w }
@@ -21,6 +23,7 @@ fn bend(k: u64, c: u64, s: u64, w: u64) -> u64
 }
 
 // What the sine lacks of g, as a part of g, at 2^70; z is the square of g at 2^70.
+#[tactic(auto, unfolding(crate::specs::Short::lack))]
 fn lack(z: u64) -> u64
     requires { z ≤ 2 ^ 60 }
     ensures { result ≡ lack z }
@@ -30,6 +33,7 @@ fn lack(z: u64) -> u64
 }
 
 // The sine of g at 2^66.
+#[tactic(auto, unfolding(crate::specs::Short::short_sine))]
 pub fn short_sine(g: u64, z: u64) -> u64
     requires { (g ≤ 2 ^ 61) × (z ≤ 2 ^ 60) }
     ensures { result ≡ short_sine g z }
@@ -38,6 +42,7 @@ pub fn short_sine(g: u64, z: u64) -> u64
 }
 
 // One less the cosine, at 2^70.
+#[tactic(auto, unfolding(crate::specs::Short::short_versine))]
 pub fn short_versine(z: u64) -> u64
     requires { z ≤ 2 ^ 60 }
     ensures { result ≡ short_versine z }
@@ -47,6 +52,7 @@ pub fn short_versine(z: u64) -> u64
 }
 
 // A node's row turned by the rest of the angle: 3 more than the answer, at 2^61.
+#[tactic(auto, unfolding(crate::specs::Rule::turned))]
 pub fn turned(b: u64, c: u64, v: u64, s: u64, down: bool) -> u64
     requires { (b ≤ 2 ^ 62) × (c ≤ 2 ^ 62) × (v ≤ 2 ^ 59) × (s ≤ 2 ^ 61) }
     ensures { result ≡ turned b c v s down }
@@ -61,6 +67,7 @@ pub fn turned(b: u64, c: u64, v: u64, s: u64, down: bool) -> u64
 }
 
 // t to 53 places: 3 more than the answer, at 2^53.
+#[tactic(auto, unfolding(crate::specs::Rule::rounded))]
 pub fn rounded(t: u64) -> u64
     requires { t < 2 ^ 63 + 2 ^ 62 }
     ensures { result ≡ rounded t }
@@ -76,16 +83,11 @@ pub fn outside(k: u64) -> bool
 }
 
 // k in the range of the answers.
+#[tactic(auto, unfolding(crate::specs::Rule::ranged))]
 pub fn ranged(k: u64) -> u64
     ensures { result ≡ ranged k }
 {
-    if k < 18014398509481984 {
-        return 18014398509481984;
-    }
-    if 36028797018963968 < k {
-        return 36028797018963968;
-    }
-    k
+    k.clamp(18014398509481984, 36028797018963968)
 }
 
 // The float that k stands for, negated where `flip`.

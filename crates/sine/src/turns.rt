@@ -16,18 +16,16 @@ fn less_turns(digits: u64, places: u64) -> u64
     ensures { result ≡ digits * 2 ^ places % 7074237752028440 }
 {
     let mut r = digits;
-    let mut left = places;
-    while left > 10 {
+    for _ in 0..places / 10 {
         r = (r << 10) % TURN;
-        left -= 10;
     }
-    (r << left) % TURN
+    (r << places % 10) % TURN
 }
 
 pub fn remainder(x: f64) -> f64
     ensures { result ≡ rem binary64 x tau }
 {
-    if x != x {
+    if x.is_nan() {
         return scalar::not_a_number();
     }
     let a = scalar::abs(x);
@@ -38,10 +36,7 @@ pub fn remainder(x: f64) -> f64
     if 0x7ff0_0000_0000_0000 <= bits {
         return scalar::not_a_number();
     }
-    let r = less_turns(
-        bits % 0x10_0000_0000_0000 + 0x10_0000_0000_0000,
-        bits / 0x10_0000_0000_0000 - 1025,
-    );
+    let r = less_turns(scalar::digits_of(bits), scalar::field(bits) - 1025);
     let size = (r as f64) * 8.881784197001252e-16;
     if x < 0.0 {
         return -size;

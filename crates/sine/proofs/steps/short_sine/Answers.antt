@@ -1,6 +1,5 @@
 -- `sine::steps::short_sine` meets its contract.
 use Rattle.std.proofs.Common.{◌^◌, ◌≤◌, arith}
-use Rattle.sine.specs.Short.{short_sine}
 use Rattle.fixed.proofs.Products.{high_le}
 use Rattle.sine.proofs.Sizes.{lack-le}
 use Rattle.sine.proofs.steps.short_sine.Goals as goal
@@ -15,7 +14,3 @@ overflow_sub-result c =
     let b : q ≤ 2 ^ 58 = omega (arith, lack-le c.args.z c.requires.1) in
     let h : g ≤ g = omega arith in
     omega (arith, high_le g q g (2 ^ 58) h b)
-
-pub returns : goal.returns
-unfolding short_sine
-returns c = cc

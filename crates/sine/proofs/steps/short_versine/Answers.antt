@@ -1,6 +1,5 @@
 -- `sine::steps::short_versine` meets its contract.
 use Rattle.std.proofs.Common.{◌/◌, ◌^◌, ◌≤◌, arith}
-use Rattle.sine.specs.Short.{short_versine}
 use Rattle.sine.proofs.Sizes.{bent_le}
 use Rattle.sine.proofs.steps.short_versine.Goals as goal
 
@@ -15,7 +14,3 @@ overflow_sub-result c =
     let w = c.args.z / 268435456 in
     let h : w ≤ 2 ^ 32 = omega arith in
     rw c.bend.ensures (omega (arith, bent_le 2863311531 3054159019 140737488355328 w h))
-
-pub returns : goal.returns
-unfolding short_versine
-returns c = simp c.bend.ensures

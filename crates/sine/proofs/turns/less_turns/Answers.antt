@@ -1,22 +1,28 @@
-use Rattle.std.proofs.Common.{◌≡◌, ℕ, ◌+◌, ◌-◌, ◌*◌, ◌%◌, ◌^◌, sym, ap, ◌∙◌, lt_of_lt_of_le, mod-eq_of_lt, mul_assoc, arith, pow_mono, pow-add, shl_lt}
+use Rattle.std.proofs.Common.{◌≡◌, ℕ, ◌+◌, ◌*◌, ◌%◌, ◌^◌, sym, ap, ◌∙◌, lt_of_lt_of_le, mod-eq_of_lt, mul_assoc, arith, pow_mono, pow-add, shl_lt}
 use Rattle.std.proofs.lemmas.Nat.{mul-mod_first}
 use Rattle.sine.proofs.turns.less_turns.Goals as goal
 
-pub loop-left-preserved : goal.loop-left-preserved
-loop-left-preserved c =
-    let r = c.loop-left.r in
-    let left = c.loop-left.left in
-    let h = c.loop-left.invariant in
+-- k places more
+more : (d r i k j : ℕ) → r % 7074237752028440 ≡ d * 2 ^ i % 7074237752028440 → i + k ≡ j → r * 2 ^ k % 7074237752028440 ≡ d * 2 ^ j % 7074237752028440
+more d r i k j h e =
+    let t : ℕ = 7074237752028440 in
+    let joined : d * 2 ^ i * 2 ^ k ≡ d * 2 ^ j = mul_assoc d (2 ^ i) (2 ^ k) ∙ ap (λ (z : ℕ). d * z) (sym (pow-add 2 i k) ∙ ap (λ (z : ℕ). 2 ^ z) e) in
+    sym (mul-mod_first r (2 ^ k) t) ∙ ap (λ (z : ℕ). z * 2 ^ k % t) h ∙ mul-mod_first (d * 2 ^ i) (2 ^ k) t ∙ ap (λ (z : ℕ). z % t) joined
+
+pub loop-preserved : goal.loop-preserved
+loop-preserved c =
+    let r = c.loop.r in
+    let i = c.loop.counter in
+    let h = c.loop.invariant in
     let small : r * 1024 % 2 ^ 64 ≡ r * 1024 = mod-eq_of_lt (omega arith) in
-    let back : 10 + (left - 10) ≡ left = omega arith in
-    let same : r * 1024 * 2 ^ (left - 10) ≡ r * 2 ^ left =
-    mul_assoc r 1024 (2 ^ (left - 10)) ∙ ap (λ (z : ℕ). r * z) (sym (pow-add 2 10 (left - 10)) ∙ ap (λ (z : ℕ). 2 ^ z) back) in
-    rw small (omega arith, mul-mod_first (r * 1024) (2 ^ (left - 10)) 7074237752028440 ∙ ap (λ (z : ℕ). z % 7074237752028440) same ∙ h.1)
+    rw small (omega arith, omega (arith, more c.args.digits r (10 * i) 10 (10 * (i + 1)) h.1 (omega arith)))
 
 pub returns : goal.returns
 returns c =
-    let r = c.loop-left.r in
-    let left = c.loop-left.left in
-    let h = c.loop-left.invariant in
-    let small : r * 2 ^ left % 2 ^ 64 ≡ r * 2 ^ left = mod-eq_of_lt (lt_of_lt_of_le (shl_lt 53 left h.0) (pow_mono {i = 53 + left} {j = 64} (omega arith))) in
-    rw small h.1
+    let r = c.loop.r in
+    let p = c.args.places in
+    let h = c.loop.invariant in
+    let whole : 10 * c.loop.counter + p % 10 ≡ p = omega (arith, c.loop.auto.counter-end, c.loop-test.false) in
+    let small : r * 2 ^ (p % 10) % 2 ^ 64 ≡ r * 2 ^ (p % 10) =
+    mod-eq_of_lt (lt_of_lt_of_le (shl_lt 53 (p % 10) h.0) (pow_mono {i = 53 + p % 10} {j = 64} (omega arith))) in
+    rw small (more c.args.digits r (10 * c.loop.counter) (p % 10) p h.1 whole)
