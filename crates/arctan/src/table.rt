@@ -18,6 +18,7 @@ pub struct Row {
     pub a9: u64,
 }
 
+#[tactic(auto, unfolding(arctan_table::specs::Table::table, arctan_table::specs::Table::coefs_at, crate::specs::Rows::plain, crate::specs::Rows::raised, crate::specs::Rows::row_from, crate::specs::Rows::row_at,))]
 pub fn look(j: u64) -> Row
     ensures { result ≡ row_at j }
 {

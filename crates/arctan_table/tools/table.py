@@ -23,6 +23,17 @@ ghost use Rattle.arctan.specs.Rows.{row_at};
 pub struct Row {
 %s}
 
+#[tactic(
+    auto,
+    unfolding(
+        arctan_table::specs::Table::table,
+        arctan_table::specs::Table::coefs_at,
+        crate::specs::Rows::plain,
+        crate::specs::Rows::raised,
+        crate::specs::Rows::row_from,
+        crate::specs::Rows::row_at,
+    )
+)]
 pub fn look(j: u64) -> Row
     ensures { result ≡ row_at j }
 {
@@ -62,22 +73,19 @@ for path, text in (("arctan/src/table.rt", code), ("arctan_table/specs/Table.ant
     with open(os.path.join(base, path), "w") as f:
         f.write(text)
 
-proof = """-- `arctan::table::look` meets its contract: each arm is the row of its number, and past the arms the number is the last row's or above.
+proof = """-- `arctan::table::look` meets its contract: past the arms the number is the last row's or above.
 -- Written by crates/arctan_table/tools/table.py.
-use Rattle.std.proofs.Common.{◌≡◌, ℕ, refl}
+use Rattle.std.proofs.Common.{refl}
 use native.Mathlib.Nat.{min-eq_right}
 use Rattle.fixed.proofs.Arms.{past}
-use Rattle.arctan.specs.declared.table.Row.{Row}
 use Rattle.arctan_table.specs.Table.{table, coefs_at}
 use Rattle.arctan.specs.Rows.{plain, raised, row_from, row_at}
 use Rattle.arctan.proofs.table.look.Goals as goal
 
-at : {j : ℕ} {v : Row} (k : ℕ) → j ≡ k → v ≡ row_at k → v ≡ row_at j
-at k e f = rw e f
-"""
-answer = lambda arm, term: "\npub returns-%s : goal.returns-%s\nunfolding coefs_at plain raised row_at row_from table\nreturns-%s c = %s\n" % (arm, arm, arm, term)
-proof += "".join(answer("in-%d" % j, "at %d c.in-%d.is refl" % (j, j)) for j in range(ROWS - 1))
-proof += answer("in_default", "rw (min-eq_right (past %d _ c.in_default.in_default-own.rest)) refl" % (ROWS - 1))
+pub returns-in_default : goal.returns-in_default
+unfolding coefs_at plain raised row_at row_from table
+returns-in_default c = rw (min-eq_right (past %d _ c.in_default.in_default-own.rest)) refl
+""" % (ROWS - 1)
 os.makedirs(os.path.join(base, "arctan/proofs/table/look"), exist_ok=True)
 with open(os.path.join(base, "arctan/proofs/table/look/Answers.antt"), "w") as f:
     f.write(proof)

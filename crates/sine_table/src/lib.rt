@@ -6,6 +6,7 @@ ghost use Rattle.std.specs.Prelude.{◌≡◌, get_or};
 ghost use Rattle.sine_table.specs.Table.{sines, cosines};
 
 // One more than the sine of j / 16, at 2^61; 0 past the last node.
+#[tactic(auto, unfolding(crate::specs::Table::sines))]
 pub fn node_sine(j: u64) -> u64
     ensures { result ≡ get_or sines j 0 }
 {
@@ -117,6 +118,7 @@ pub fn node_sine(j: u64) -> u64
 }
 
 // One more than the cosine of j / 16, at 2^61; 0 past the last node.
+#[tactic(auto, unfolding(crate::specs::Table::cosines))]
 pub fn node_cosine(j: u64) -> u64
     ensures { result ≡ get_or cosines j 0 }
 {

@@ -33,6 +33,7 @@ ghost use Rattle.sine_table.specs.Table.{sines, cosines};
 for name, numbers in tables.items():
     code += f"""
 // One more than the {name} of j / 16, at 2^61; 0 past the last node.
+#[tactic(auto, unfolding(crate::specs::Table::{name}s))]
 pub fn node_{name}(j: u64) -> u64
     ensures {{ result ≡ get_or {name}s j 0 }}
 {{
@@ -50,22 +51,16 @@ for name, numbers in tables.items():
 write("specs/Table.antt", spec)
 
 for name in tables:
-    proof = f"""-- `sine_table::node_{name}` reads the table: each arm is the number at its index, and past the arms there is none.
+    proof = f"""-- `sine_table::node_{name}` reads the table: past the arms there is no number.
 -- Written by crates/sine_table/tools/table.py.
-use mathlib.Core.Path.{{◌≡◌, refl, sym}}
-use Prim.Native.Nat.{{ℕ}}
-use lib.ListN.{{get_or, get_or-eq_default}}
+use mathlib.Core.Path.{{sym}}
+use lib.ListN.{{get_or-eq_default}}
 use Rattle.fixed.proofs.Arms.{{past}}
 use Rattle.sine_table.specs.Table.{{{name}s}}
 use Rattle.sine_table.proofs.node_{name}.Goals as goal
 
-at : {{j : ℕ}} (k : ℕ) {{v : ℕ}} → j ≡ k → v ≡ get_or {name}s k 0 → v ≡ get_or {name}s j 0
-at k e f = rw e f
+pub returns-in_default : goal.returns-in_default
+unfolding {name}s
+returns-in_default c = sym (get_or-eq_default {name}s 0 (past {NODES} _ c.in_default.in_default-own.rest))
 """
-
-    def answer(arm, term):
-        return f"\npub returns-{arm} : goal.returns-{arm}\nunfolding {name}s\nreturns-{arm} c = {term}\n"
-
-    proof += "".join(answer(f"in-{j}", f"at {j} c.in-{j}.is refl") for j in range(NODES))
-    proof += answer("in_default", f"sym (get_or-eq_default {name}s 0 (past {NODES} _ c.in_default.in_default-own.rest))")
     write(f"proofs/node_{name}/Answers.antt", proof)
