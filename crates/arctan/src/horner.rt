@@ -17,6 +17,7 @@ fn rough(x: u64, y: u64) -> u64
     x / 2147483648 * (y / 67108864) / 32
 }
 
+// Two steps, and not one over its product: handed in, the product would need a contract that says what it gives, longer than a step.
 fn fine_step(c: u64, q: u64, h: u64) -> u64
     requires { Coefficient c × (Number q × Rest h) }
     ensures { (result ≡ fine_step c q h) × Number result }

@@ -18,22 +18,13 @@ code = """// The arctangent's table, written by crates/arctan_table/tools/table.
 ghost use Rattle.std.specs.Prelude.{◌≡◌};
 ghost use Rattle.arctan.specs.Rows.{row_at};
 
-// The coefficients of the arctangent's series at j / 32, in units of 2^-61; from a2 on with 2 added.
+// The coefficients of the arctangent's series at j / 32, in units of 2^-61; from a2 on with 2 added. Ten names and no array, since the rule's
+// steps, which name each, are of three kinds.
 #[derive(Clone, Copy)]
 pub struct Row {
 %s}
 
-#[tactic(
-    auto,
-    unfolding(
-        arctan_table::specs::Table::table,
-        arctan_table::specs::Table::coefs_at,
-        crate::specs::Rows::plain,
-        crate::specs::Rows::raised,
-        crate::specs::Rows::row_from,
-        crate::specs::Rows::row_at,
-    )
-)]
+#[tactic(auto, unfolding(arctan_table::specs::Table::table, arctan_table::specs::Table::coefs_at, crate::specs::Rows::plain, crate::specs::Rows::raised, crate::specs::Rows::row_from, crate::specs::Rows::row_at))]
 pub fn look(j: u64) -> Row
     ensures { result ≡ row_at j }
 {

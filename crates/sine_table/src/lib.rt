@@ -1,5 +1,6 @@
 // One more than the sine and the cosine of each node j / 16, at 2^61, to the nearest. Written by crates/sine_table/tools/table.py.
-// A `match` on the index is one load; a constant array would be stored anew at each call.
+// A `match` on the index is one load; a constant array would be stored anew at each call. Two functions, and not one that gives a pair,
+// since the rule has two lists.
 #![tactic(auto)]
 
 ghost use Rattle.std.specs.Prelude.{◌≡◌, get_or};

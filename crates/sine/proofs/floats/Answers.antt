@@ -2,7 +2,7 @@
 use Rattle.std.proofs.Common.{◌≡◌, ◌/◌, ◌^◌, true, eqb, sym, refl, ◌∙◌}
 use borrow.Author.Tests.{not-false}
 use Rattle.laws.proofs.Logic.{or_false_left, or_false_right}
-use Rattle.sine.proofs.Sizes.{ranged_range, inside_range, inside_ranged}
+use Rattle.sine.proofs.Sizes.{ranged_range, inside_ranged}
 use Rattle.sine.proofs.floats.Goals as goal
 
 pub float-requires : goal.float-requires
@@ -12,20 +12,6 @@ float-requires c =
 pub float-requires-then-outside : goal.float-requires-then-outside
 float-requires-then-outside c =
     rw c.ranged-then-outside.ensures (ranged_range c.args.r.cosine)
-
-pub returns-then-outside : goal.returns-then-outside
-returns-then-outside c =
-    (c.float-then-outside.ensures ∙ rw c.ranged-then-outside.ensures refl, rw (c.float.ensures, c.ranged.ensures) refl)
-
-pub float-requires-2 : goal.float-requires-2
-float-requires-2 c =
-    inside_range c.args.r.sine
-    (not-false _ (sym c.outside.ensures ∙ or_false_left c.outside.result c.outside-2.result c.if-outside.false))
-
-pub float-requires-3 : goal.float-requires-3
-float-requires-3 c =
-    inside_range c.args.r.cosine
-    (not-false _ (sym c.outside-2.ensures ∙ or_false_right c.outside.result c.outside-2.result c.if-outside.false))
 
 pub returns : goal.returns
 returns c =

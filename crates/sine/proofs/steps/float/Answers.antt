@@ -1,7 +1,6 @@
 -- `sine::steps::float` meets its contract: the difference fits a signed number, and it is a float exactly.
-use Rattle.std.proofs.Common.{◌≡◌, ℕ, suc, ◌-◌, ◌*◌, ◌^◌, ◌≤◌, Bool, true, false, cond, T, ltb, ℤ, pos, negsuc, ◌-ℤ◌, sym, refl, ap, ◌∙◌, subst, arith, le→leb, lt→ltb, to_z-of_z, w64, SFits, to_z, of_z, rules, ltb-true, lt-ltb}
+use Rattle.std.proofs.Common.{◌≡◌, ℕ, suc, ◌-◌, ◌*◌, ◌^◌, ◌≤◌, Bool, true, false, cond, ltb, ℤ, pos, negsuc, ◌-ℤ◌, refl, ap, ◌∙◌, arith, to_z-of_z, w64, SFits, to_z, of_z, lt-ltb}
 use lib.IntN.{sub_ℕ}
-use lib.Ieee.{binary64, in_float}
 use Rattle.sine.specs.Rule.{floated}
 use Rattle.sine.proofs.Signs.{floated_flip}
 use Rattle.sine.proofs.steps.float.Goals as goal
@@ -21,32 +20,8 @@ module _ (k : ℕ) (low : 2 ^ 54 ≤ k) (high : k ≤ 2 ^ 55) where
       go true e = record { sfits = omega arith }
       go false e = record { sfits = omega arith }
 
-  difference-exact : T (in_float binary64 (sub_ℕ k (3 * 2 ^ 53)))
-  unfolding in_float
-  difference-exact = go (ltb k (3 * 2 ^ 53)) refl
-    where
-      go : (b : Bool) → ltb k (3 * 2 ^ 53) ≡ b → T (in_float binary64 (cond b (negsuc (3 * 2 ^ 53 - suc k)) (pos (k - 3 * 2 ^ 53))))
-      go true e = lt→ltb (3 * 2 ^ 53 - suc k) (2 ^ 53) (omega (arith, ltb-true k (3 * 2 ^ 53) e))
-      go false e = le→leb (k - 3 * 2 ^ 53) (2 ^ 53) (omega arith)
-
   stored_is : to_z w64 (of_z w64 (to_z w64 k -ℤ pos 27021597764222976)) ≡ sub_ℕ k (3 * 2 ^ 53)
   stored_is = ap (λ (z : ℤ). to_z w64 (of_z w64 z)) difference-is ∙ to_z-of_z difference-fits
-
--- ---- and the needs
-pub overflow_cast-y : goal.overflow_cast-y
-overflow_cast-y c = search rules
-
-pub overflow_sub-y : goal.overflow_sub-y
-overflow_sub-y c =
-    let k = c.args.k in
-    let r = c.requires in
-    subst (λ (z : ℤ). SFits w64 z) (sym (difference-is k r.0 r.1)) (difference-fits k r.0 r.1)
-
-pub int_to_float-y : goal.int_to_float-y
-int_to_float-y c =
-    let k = c.args.k in
-    let r = c.requires in
-    subst (λ (z : ℤ). T (in_float binary64 z)) (sym (stored_is k r.0 r.1)) (difference-exact k r.0 r.1)
 
 pub returns : goal.returns
 unfolding floated
