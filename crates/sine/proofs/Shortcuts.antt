@@ -1,5 +1,7 @@
 -- Two ways to the remainder without the division of floats: below TAU it is x, and below 8192 a remainder of whole numbers.
-use Rattle.std.proofs.Common.{◌≡◌, ℕ, suc, ◌+◌, ◌-◌, ◌*◌, ◌/◌, ◌%◌, ◌^◌, ◌<◌, ◌≤◌, Bool, true, false, T, ℤ, pos, negsuc, sym, refl, ap, ◌∙◌, subst, true≢false, le_trans, lt_of_lt_of_le, le_of_lt, mod-lt, mod-eq_of_lt, mul_assoc, mul_comm, add-mul, lt_of_mul-lt-mul_right, mul-pos, lt_of_not-le, div-add-mod', zero-mul, mul-one, mul_right_comm, not-le_of_lt, le_of_mul-le-mul_right, mul-div_cancel, mul_left_comm, arith, lit<, lit≤, pow_mono, pow-add, shl_lt, ltb-false, ltb-true}
+use Rattle.std.proofs.Common.{◌≡◌, ℕ, suc, ◌+◌, ◌-◌, ◌*◌, ◌/◌, ◌%◌, ◌^◌, ◌<◌, ◌≤◌, Bool, true, false, T, ℤ, pos, negsuc, sym, refl, ap, ◌∙◌, subst, true≢false, le_trans, lt_of_lt_of_le}
+use Rattle.std.proofs.Common.{le_of_lt, mod-lt, mod-eq_of_lt, mul_assoc, mul_comm, add-mul, lt_of_mul-lt-mul_right, mul-pos, lt_of_not-le, div-add-mod', zero-mul, mul-one, mul_right_comm}
+use Rattle.std.proofs.Common.{not-le_of_lt, le_of_mul-le-mul_right, mul-div_cancel, mul_left_comm, arith, lit<, lit≤, pow_mono, pow-add, shl_lt, ltb-false, ltb-true}
 use mathlib.Core.Bool.{false≢true}
 use lib.Count.{count_trailing_zeros}
 use lib.Ieee.{Float, is_nan, nan, inf, fin, binary64, up, down, round, odd, of_bits, of_fields, neg, mul, rem, lt, to_bits, fits}
