@@ -21,12 +21,14 @@ pub fn turn_point(center: Point, rx: f64, ry: f64, rot: SinCos, t: f64) -> Point
     }
 }
 
+#[tactic(auto, unfolding(crate::specs::Ellipse::ellipse_point))]
 pub fn ellipse_point(center: Point, rx: f64, ry: f64, rot: f64, t: f64) -> Point
     ensures { result ≡ ellipse_point center rx ry rot t }
 {
     turn_point(center, rx, ry, sine::sin_cos(rot), t)
 }
 
+#[tactic(auto, unfolding(crate::specs::Ellipse::ellipse_tangent))]
 pub fn ellipse_tangent(rx: f64, ry: f64, rot: f64, t: f64) -> Point
     ensures { result ≡ ellipse_tangent rx ry rot t }
 {

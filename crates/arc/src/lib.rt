@@ -11,10 +11,3 @@ pub use ellipse::{
 pub use span::{
     arc_param_at_point, arc_param_in_span, arc_radii, arc_theta_of_pos, norm_tau, to_unit,
 };
-
-// Where an angle lies in an arc's span.
-#[derive(Clone, Copy)]
-pub enum InSpan {
-    At(f64),
-    Outside,
-}

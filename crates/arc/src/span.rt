@@ -3,13 +3,13 @@ ghost use Rattle.std.specs.Prelude.{◌≡◌};
 ghost use Rattle.arc.specs.Span.{norm_tau, within, arc_param_in_span};
 ghost use Rattle.arc.specs.Frame.{arc_radii, to_unit, arc_theta_of_pos, arc_param_at_point};
 
-use crate::InSpan;
 use curves::{Arc, Point, Radii};
 use scalar::TAU;
 use sine::SinCos;
 
 const SPAN_EPS: f64 = 1e-9;
 
+#[tactic(auto, unfolding(crate::specs::Span::norm_tau, sine::specs::Angle::tau))]
 pub fn norm_tau(v: f64) -> f64
     ensures { result ≡ norm_tau v }
 {
@@ -18,22 +18,22 @@ pub fn norm_tau(v: f64) -> f64
 }
 
 // An offset from the start is in the span up to the slack past its end.
-fn within(off: f64, span: f64, at: f64) -> InSpan
+#[tactic(auto, unfolding(crate::specs::Span::within))]
+fn within(off: f64, span: f64, at: f64) -> Option<f64>
     ensures { result ≡ within off span at }
 {
-    if off <= span + SPAN_EPS {
-        return InSpan::At(at);
-    }
-    InSpan::Outside
+    (off <= span + SPAN_EPS).then_some(at)
 }
 
-pub fn arc_param_in_span(arc: Arc, theta: f64) -> InSpan
+// Where an angle lies in an arc's span.
+#[tactic(auto, unfolding(crate::specs::Span::arc_param_in_span))]
+pub fn arc_param_in_span(arc: Arc, theta: f64) -> Option<f64>
     ensures { result ≡ arc_param_in_span arc theta }
 {
     let sa = arc.start;
     let ea = arc.end;
     if arc.closed {
-        return InSpan::At(sa + norm_tau(theta - sa));
+        return Some(sa + norm_tau(theta - sa));
     }
     if arc.ccw {
         let off = norm_tau(theta - sa);
@@ -43,18 +43,17 @@ pub fn arc_param_in_span(arc: Arc, theta: f64) -> InSpan
     within(off, sa - ea, sa - off)
 }
 
+#[tactic(auto, unfolding(crate::specs::Frame::arc_radii))]
 pub fn arc_radii(arc: Arc) -> Radii
     ensures { result ≡ arc_radii arc }
 {
-    if arc.is_ellipse {
-        return Radii {
-            a: arc.radius,
-            b: arc.radius_b,
-        };
-    }
     Radii {
         a: arc.radius,
-        b: arc.radius,
+        b: if arc.is_ellipse {
+            arc.radius_b
+        } else {
+            arc.radius
+        },
     }
 }
 
@@ -70,15 +69,16 @@ pub fn to_unit(p: Point, c: Point, rot: SinCos, r: Radii) -> Point
     }
 }
 
+#[tactic(auto, unfolding(crate::specs::Frame::arc_theta_of_pos))]
 pub fn arc_theta_of_pos(arc: Arc, p: Point) -> f64
     ensures { result ≡ arc_theta_of_pos arc p }
 {
     let rot = sine::sin_cos(arc.rotation);
-    let c = arc.center;
-    let u = to_unit(p, c, rot, arc_radii(arc));
+    let u = to_unit(p, arc.center, rot, arc_radii(arc));
     arctan::atan2(u.y, u.x)
 }
 
+#[tactic(auto, unfolding(crate::specs::Frame::arc_param_at_point))]
 pub fn arc_param_at_point(a: Arc, p: Point) -> f64
     ensures { result ≡ arc_param_at_point a p }
 {

@@ -8,12 +8,11 @@ use native.Mathlib.Omega.{arith}
 use borrow.Author.Tests.{ne_eqb}
 use lib.ListN.{length}
 use lib.Ieee.{Float}
+use Rattle.std.specs.Prelude.{Option, Some, None}
 use Rattle.curves.specs.declared.Arc.{Arc}
 use Rattle.hits.specs.declared.CurveHit.{CurveHit}
-use Rattle.hits.specs.declared.Crossing.{Crossing}
-use Rattle.hits.specs.declared.Crossing.TheVariants.{At, Miss}
-use Rattle.hits.specs.declared.Crossings.{Crossings}
-use Rattle.hits.specs.declared.Crossings.TheVariants.{None, One, Two}
+use Rattle.hits.specs.declared.UpToTwo.{UpToTwo}
+use Rattle.hits.specs.declared.UpToTwo.TheVariants.{Zero, One, Two}
 use Rattle.hits.specs.declared.Lengths.{Lengths}
 use Rattle.hits.specs.Hit.{hit_size, written}
 use Rattle.hits.specs.Need.{short}
@@ -60,19 +59,19 @@ module _ (gs : List Given) (most : ℕ) (lent : Lengths) where
 
 -- ---- the closed forms have two hits at most, and two segments one
 
-pub listed-two : (c : Crossings) → length (listed c) ≤ closed_hits
-listed-two None = omega arith
+pub listed-two : (c : UpToTwo CurveHit) → length (listed c) ≤ closed_hits
+listed-two Zero = omega arith
 listed-two (One h) = omega arith
 listed-two (Two h g) = omega arith
 
-pub listed-one : (c : Crossing) → length (listed (one c)) ≤ segments_hits
-listed-one (At h) = omega arith
-listed-one Miss = omega arith
+pub listed-one : (c : Option CurveHit) → length (listed (one c)) ≤ segments_hits
+listed-one (Some h) = omega arith
+listed-one None = omega arith
 
-pub two_fit : (c : Crossings) (n : ℕ) → closed_hits ≤ n → length (listed c) ≤ n
+pub two_fit : (c : UpToTwo CurveHit) (n : ℕ) → closed_hits ≤ n → length (listed c) ≤ n
 two_fit c n h = le_trans (listed-two c) h
 
-pub one-fits : (c : Crossing) (n : ℕ) → segments_hits ≤ n → length (listed (one c)) ≤ n
+pub one-fits : (c : Option CurveHit) (n : ℕ) → segments_hits ≤ n → length (listed (one c)) ≤ n
 one-fits c n h = le_trans (listed-one c) h
 
 -- ---- a pair of arcs

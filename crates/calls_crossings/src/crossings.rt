@@ -13,7 +13,7 @@ ghost use Rattle.calls_crossings.specs.Pairs.{pair_outcome};
 
 use checks::{DEEPEST, Found, Hunted};
 use curves::{Arc, Point};
-use hits::{Crossings, Lengths, Tally};
+use hits::{CurveHit, Lengths, Tally, UpToTwo};
 
 // How many hits two segments can have, and a closed form.
 pub const SEGMENTS_HITS: usize = 1;
@@ -35,7 +35,7 @@ pub fn intersect_segments(a1: Point, a2: Point, b1: Point, b2: Point, room: &mut
 {
     let no = segments_refusal(a1, a2, b1, b2, Lengths { room: room.len() });
     if no == 0 {
-        let c = hits::one(segments::intersect_segments(a1, a2, b1, b2));
+        let c = UpToTwo::one(segments::intersect_segments(a1, a2, b1, b2));
         return Found::Hits(hits::write(room, c));
     }
     Found::Refused(no)
@@ -60,7 +60,7 @@ pub fn intersect_segment_arc(p1: Point, p2: Point, a: Arc, room: &mut [f64]) -> 
 }
 
 // The closed form's crossings, as a hunt's counts with nothing sampled.
-pub fn closed(c: Crossings, room: &mut [f64]) -> Tally
+pub fn closed(c: UpToTwo<CurveHit>, room: &mut [f64]) -> Tally
     requires { length (listed c) ≤ length room.old / hit_size }
     ensures { Holds (closed (listed c)) room.old result room.new }
 {

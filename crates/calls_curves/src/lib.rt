@@ -13,7 +13,7 @@ ghost use Rattle.calls_curves.specs.Curves.{curves_hits, curves_outcome, curves_
 use calls_crossings::{CLOSED_HITS, SEGMENTS_HITS};
 use checks::Hunted;
 use curves::{Curve, Point};
-use hits::{Lengths, Tally};
+use hits::{Lengths, Tally, UpToTwo};
 
 fn at(x: f64, y: f64) -> Point
     ensures { result ≡ at x y }
@@ -51,7 +51,7 @@ fn cross(a: Curve, b: Curve, depth: u32, room: &mut [f64]) -> Tally
                     at(u1, v1),
                     at(u2, v2),
                 );
-                calls_crossings::closed(hits::one(c), room)
+                calls_crossings::closed(UpToTwo::one(c), room)
             }
             Curve::Arc(q) => {
                 calls_crossings::closed(
@@ -63,7 +63,7 @@ fn cross(a: Curve, b: Curve, depth: u32, room: &mut [f64]) -> Tally
         Curve::Arc(p) => match b {
             Curve::Segment(u1, v1, u2, v2) => {
                 let c = crossing::intersect_segment_arc(at(u1, v1), at(u2, v2), p);
-                calls_crossings::closed(hits::exchanged(c), room)
+                calls_crossings::closed(c.exchanged(), room)
             }
             Curve::Arc(q) => calls_crossings::pair(p, q, depth, room),
         },

@@ -4,7 +4,6 @@ ghost use Rattle.checks.specs.Answer.{number_told, pair_told};
 ghost use Rattle.calls_points.specs.InSpan.{span_refusal, span_number};
 ghost use Rattle.calls_points.specs.Answers.{norm_tau_answer, arc_param_in_span_answer, arc_radii_answer, arc_theta_of_pos_answer, arc_param_at_point_answer};
 
-use arc::InSpan;
 use checks::{Number, OUTSIDE_SPAN, Pair};
 use curves::{Arc, Point};
 
@@ -18,21 +17,21 @@ pub fn norm_tau(v: f64) -> Number
 }
 
 // The refusal of an angle outside the span.
-fn outside(s: InSpan) -> u8
+fn outside(s: Option<f64>) -> u8
     ensures { result ≡ span_refusal s }
 {
     match s {
-        InSpan::At(_) => 0,
-        InSpan::Outside => OUTSIDE_SPAN,
+        Some(_) => 0,
+        None => OUTSIDE_SPAN,
     }
 }
 
-fn span_number(s: InSpan) -> f64
+fn span_number(s: Option<f64>) -> f64
     ensures { result ≡ span_number s }
 {
     match s {
-        InSpan::At(t) => t,
-        InSpan::Outside => 0.0,
+        Some(t) => t,
+        None => 0.0,
     }
 }
 

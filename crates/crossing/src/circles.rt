@@ -3,19 +3,18 @@ ghost use Rattle.std.specs.Prelude.{◌≡◌};
 ghost use Rattle.crossing.specs.Circles.{half_chord, candidate, candidates, intersect_circle_circle};
 
 use curves::{Arc, Point};
-use hits::{Crossing, Crossings};
+use hits::{CurveHit, UpToTwo};
 
 // The root of h2, and 0 where rounding took it below 0.
+#[tactic(auto, unfolding(crate::specs::Circles::half_chord))]
 fn half_chord(h2: f64) -> f64
     ensures { result ≡ half_chord h2 }
 {
-    if h2 > 0.0 {
-        return root::sqrt(h2);
-    }
-    0.0
+    if h2 > 0.0 { root::sqrt(h2) } else { 0.0 }
 }
 
-fn candidate(a: Arc, b: Arc, pos: Point) -> Crossing
+#[tactic(auto, unfolding(crate::specs::Circles::candidate))]
+fn candidate(a: Arc, b: Arc, pos: Point) -> Option<CurveHit>
     ensures { result ≡ candidate a b pos }
 {
     let ta = arctan::atan2(pos.y - a.center.y, pos.x - a.center.x);
@@ -28,11 +27,21 @@ fn candidate(a: Arc, b: Arc, pos: Point) -> Crossing
 }
 
 // The foot of the chord on the line of centers, and the chord's half length h: one point where h is within the tolerance.
-fn candidates(a: Arc, b: Arc, foot: Point, dx: f64, dy: f64, d: f64, h: f64, tol: f64) -> Crossings
+#[tactic(auto, unfolding(crate::specs::Circles::candidates))]
+fn candidates(
+    a: Arc,
+    b: Arc,
+    foot: Point,
+    dx: f64,
+    dy: f64,
+    d: f64,
+    h: f64,
+    tol: f64,
+) -> UpToTwo<CurveHit>
     ensures { result ≡ candidates a b foot dx dy d h tol }
 {
     if h < tol {
-        return hits::one(candidate(a, b, foot));
+        return UpToTwo::one(candidate(a, b, foot));
     }
     let left = Point {
         x: foot.x - h * dy / d,
@@ -42,10 +51,11 @@ fn candidates(a: Arc, b: Arc, foot: Point, dx: f64, dy: f64, d: f64, h: f64, tol
         x: foot.x + h * dy / d,
         y: foot.y - h * dx / d,
     };
-    hits::both(candidate(a, b, left), candidate(a, b, right))
+    UpToTwo::both(candidate(a, b, left), candidate(a, b, right))
 }
 
-pub fn intersect_circle_circle(a: Arc, b: Arc) -> Crossings
+#[tactic(auto, unfolding(crate::specs::Circles::intersect_circle_circle))]
+pub fn intersect_circle_circle(a: Arc, b: Arc) -> UpToTwo<CurveHit>
     ensures { result ≡ intersect_circle_circle a b }
 {
     let r1 = a.radius;
@@ -54,14 +64,11 @@ pub fn intersect_circle_circle(a: Arc, b: Arc) -> Crossings
     let dy = b.center.y - a.center.y;
     let d = root::norm(dx, dy);
     if d < 1e-12 {
-        return Crossings::None;
+        return UpToTwo::Zero;
     }
     let tol = 1e-9 * (r1 + r2 + d);
-    if d > r1 + r2 + tol {
-        return Crossings::None;
-    }
-    if d < scalar::abs(r1 - r2) - tol {
-        return Crossings::None;
+    if d > r1 + r2 + tol || d < scalar::abs(r1 - r2) - tol {
+        return UpToTwo::Zero;
     }
     let along = (r1 * r1 - r2 * r2 + d * d) / (2.0 * d);
     let h = half_chord(r1 * r1 - along * along);

@@ -7,21 +7,18 @@ mod segment;
 ghost use Rattle.std.specs.Prelude.{◌≡◌};
 ghost use Rattle.crossing.specs.Meet.{meet};
 
-use arc::InSpan;
 pub use circles::intersect_circle_circle;
 use curves::Point;
-use hits::Crossing;
+use hits::CurveHit;
 pub use segment::intersect_segment_arc;
 
 // A position that lies in both curves' spans.
-pub fn meet(a: InSpan, b: InSpan, pos: Point) -> Crossing
+pub fn meet(a: Option<f64>, b: Option<f64>, pos: Point) -> Option<CurveHit>
     ensures { result ≡ meet a b pos }
 {
-    match a {
-        InSpan::At(ta) => match b {
-            InSpan::At(tb) => Crossing::At(hits::hit_of(ta, tb, pos)),
-            InSpan::Outside => Crossing::Miss,
-        },
-        InSpan::Outside => Crossing::Miss,
-    }
+    Some(CurveHit {
+        t_a: a?,
+        t_b: b?,
+        pos,
+    })
 }

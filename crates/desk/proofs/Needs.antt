@@ -15,7 +15,8 @@ use Rattle.hunt.proofs.Outcomes.{scanned_small}
 use Rattle.hunt.proofs.Hunts.{hunted-early, hunted_on}
 use Rattle.checks.specs.Refusal.{deepest}
 use Rattle.hits.specs.Need.{need}
-use Rattle.hits.specs.declared.Crossings.{Crossings}
+use Rattle.hits.specs.declared.CurveHit.{CurveHit}
+use Rattle.hits.specs.declared.UpToTwo.{UpToTwo}
 use Rattle.hits.specs.Listed.{listed, one, exchanged}
 use Rattle.segments.specs.Segments.{intersect_segments}
 use Rattle.crossing.specs.SegmentArc.{intersect_segment_arc}
@@ -59,7 +60,7 @@ hunted-most a b depth h = go (early (arc_radii b) (span a)) refl
         let s = scanned_small (frame a b) a.start (part (span a) (cells depth)) (closing_cell depth) (cells depth) (omega arith) in
         rw (hunted_on a b depth i) (omega (arith, s.2))
 
-few : (c : Crossings) → length (listed c) ≤ most_hits
+few : (c : UpToTwo CurveHit) → length (listed c) ≤ most_hits
 few c = omega (arith, listed-two c)
 
 pair_most : (a b : Arc) (depth : ℕ) → depth ≤ deepest → length (pair_outcome a b depth).hits ≤ most_hits

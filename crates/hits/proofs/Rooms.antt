@@ -1,21 +1,18 @@
--- The room of hits: what one more hit makes of it, what stands in it, and the part of one hit.
+-- The room of hits: what one more hit makes of it, and what stands in it.
 use mathlib.Core.Path.{◌≡◌, refl, sym, ap, ◌∙◌}
-use mathlib.Core.Bool.{Bool, true, false, cond, ◌&&◌}
-use mathlib.Core.List.{List, [], ◌∷◌, ◌++◌}
-use Prim.Native.Nat.{ℕ, suc, ◌+◌, ◌*◌, ◌-◌, ◌/◌, ◌≤◌, ◌<◌}
-use native.Mathlib.Nat.{mul_comm, add-zero}
+use mathlib.Core.List.{List, [], ◌∷◌, ◌++◌, map}
+use Prim.Native.Nat.{ℕ, zero as nought, suc, ◌+◌, ◌*◌, ◌≤◌, ◌<◌}
+use native.Mathlib.Nat.{mul_comm, zero-mul, suc-mul, add-zero}
 use native.Mathlib.Omega.{arith}
-use borrow.Author.Tests.{lt-ltb, le-ltb}
-use lib.Dec.{leb, ltb, le→leb}
-use lib.Arith.{lt→nleb}
-use lib.ListN.{length, get_or, take, drop, set}
-use lib.Seq.{drop-cons}
+use lib.ListN.{length, get_or, take, drop}
+use lib.Seq.{drop-cons, drop-drop, get_or-take, get_or-drop}
 use lib.Ieee.{Float, nan}
-use lib.Ieee.Bits.{is_true, is_false}
-use Rattle.rooms.specs.Laid.{laid}
-use Rattle.rooms.proofs.Laws.{placed-length, stored-placed, laid_none, laid_more, laid_read}
+use Rattle.std.specs.Simd.{first_chunks}
+use Rattle.rooms.specs.Laid.{flat, laid}
+use Rattle.rooms.proofs.Laws.{laid_none, laid_more, laid_read}
 use Rattle.hits.specs.declared.CurveHit.{CurveHit}
-use Rattle.hits.specs.Hit.{hit_size, numbers, written, put, hit_at, hit_part}
+use Rattle.hits.specs.Hit.{hit_size, numbers, hit_from, written, put, hit_at}
+use Rattle.hits.specs.Stands.{Stands}
 
 -- ---- the size of a hit
 
@@ -27,20 +24,6 @@ numbers_size h = refl
 pub written_none : (l : List Float) → written [] l ≡ l
 unfolding written
 written_none l = laid_none numbers l
-
-pub put-length : (l : List Float) (n : ℕ) (h : CurveHit) → n < length l / hit_size → length (put l n h) ≡ length l
-unfolding put
-put-length l n h fit = placed-length (numbers h) (n * hit_size) l (omega arith)
-
--- one store after the other
-pub put_stores : (l : List Float) (n : ℕ) (h : CurveHit) → n < length l / hit_size
-    → let from = n * hit_size in set (set (set (set l from h.t_a) (from + 1) h.t_b) (from + 2) h.pos.x) (from + 3) h.pos.y ≡ put l n h
-unfolding put
-put_stores l n h fit =
-    let from = n * hit_size in
-    let two : from + 1 + 1 ≡ from + 2 = omega arith in
-    let three : from + 2 + 1 ≡ from + 3 = omega arith in
-    rw (two, three) at (stored-placed (numbers h) from l (omega arith))
 
 -- after the hits hs, the hit h
 pub put_written : (hs : List CurveHit) (h : CurveHit) (l : List Float) → put (written hs l) (length hs) h ≡ written (hs ++ h ∷ []) l
@@ -70,22 +53,28 @@ hits_step hs lent i h =
         → ◌≡◌ {A = CurveHit} (record { t_a = ta; t_b = tb; pos = record { x = x; y = y } }) h
     of_fields a b c d = rw (a, b, c, d) refl
 
--- ---- the part of one hit
+-- chunk i of a list
+chunk_at : {A : Type 0} (n k : ℕ) (xs : List A) (i : ℕ) (d : List A) → i < k → get_or (first_chunks n k xs) i d ≡ take n (drop (i * n) xs)
+chunk_at n nought xs i d h = absurd (omega arith)
+chunk_at n (suc k) xs nought d h = rw (zero-mul n)
+chunk_at n (suc k) xs (suc i) d h =
+    let from : n + i * n ≡ suc i * n = omega (arith, suc-mul i n) in
+    chunk_at n k (drop n xs) i d (omega arith) ∙ ap (take n) (drop-drop (i * n) n xs ∙ ap (λ (m : ℕ). drop m xs) from)
 
-pub part_of : (l : List Float) (hits i : ℕ) → i < hits → i < length l / hit_size → take (i * hit_size + hit_size - i * hit_size) (drop (i * hit_size) l) ≡ hit_part l hits i
-unfolding hit_part
-part_of l hits i h g =
-    let size : i * hit_size + hit_size - i * hit_size ≡ hit_size = omega arith in
-    rw (size, lt-ltb i hits h, is_true (leb (i * hit_size + hit_size) (length l)) (le→leb (i * hit_size + hit_size) (length l) (omega arith))) refl
+-- the hit i of a room that is read hit by hit
+pub chunk_hit : (l : List Float) (k i : ℕ) (d : List Float) → i < k → hit_from (get_or (first_chunks hit_size k l) i d) ≡ hit_at l i
+chunk_hit l k i d h =
+    let read : (j : ℕ) → j < hit_size → get_or (take hit_size (drop (i * hit_size) l)) j nan ≡ get_or l (i * hit_size + j) nan =
+    λ j f. get_or-take hit_size (drop (i * hit_size) l) j nan f ∙ get_or-drop (i * hit_size) l j nan in
+    rw (chunk_at hit_size k l i d h, read 0 (omega arith), read 1 (omega arith), read 2 (omega arith), read 3 (omega arith), add-zero (i * hit_size))
 
-pub part_past : (l : List Float) (hits i : ℕ) → hits ≤ i → [] ≡ hit_part l hits i
-unfolding hit_part
-part_past l hits i h = rw (le-ltb i hits h) refl
+-- the hits that a room stands for, read hit by hit
+chunks_flat : (hs : List CurveHit) (behind : List Float) (k : ℕ) → length hs ≤ k → map hit_from (take (length hs) (first_chunks hit_size k (flat numbers hs ++ behind))) ≡ hs
+unfolding flat
+chunks_flat [] behind k l = refl
+chunks_flat (h ∷ hs) behind nought l = absurd (omega arith)
+chunks_flat (h ∷ hs) behind (suc k) l = ap (λ (gs : List CurveHit). h ∷ gs) (chunks_flat hs behind k (omega arith))
 
-pub part-short : (l : List Float) (hits i : ℕ) → length l / hit_size ≤ i → [] ≡ hit_part l hits i
-unfolding hit_part
-part-short l hits i h = rw (is_false (leb (i * hit_size + hit_size) (length l)) (lt→nleb (i * hit_size + hit_size) (length l) (omega arith))) (none (ltb i hits))
-  where
-    none : (b : Bool) → [] ≡ cond (b && false) (take hit_size (drop (i * hit_size) l)) []
-    none true = refl
-    none false = refl
+pub hits_read : (hs : List CurveHit) (lent : List Float) (n k : ℕ) (room : List Float) → Stands hs lent n room → n ≤ k → map hit_from (take n (first_chunks hit_size k room)) ≡ hs
+unfolding written laid
+hits_read hs lent n k room s l = rw (s.count, s.numbers) (chunks_flat hs _ k (rw (← s.count) l))

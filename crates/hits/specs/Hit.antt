@@ -14,6 +14,10 @@ hit_size = 4
 abbrev pub numbers : CurveHit → List Float
 numbers h = h.t_a ∷ h.t_b ∷ h.pos.x ∷ h.pos.y ∷ []
 
+-- the hit that has these numbers
+abbrev pub hit_from : List Float → CurveHit
+hit_from ns = record { t_a = get_or ns 0 nan; t_b = get_or ns 1 nan; pos = record { x = get_or ns 2 nan; y = get_or ns 3 nan } }
+
 -- the hit of two curves at these parameters and this position
 abbrev pub hit_of : Float → Float → Point → CurveHit
 hit_of ta tb pos = record { t_a = ta; t_b = tb; pos = pos }

@@ -1,9 +1,10 @@
 // Crossings of two curves, and the lent room that they are written to.
 #![tactic(auto)]
 
-ghost use Rattle.std.specs.Prelude.{◌≡◌, ◌<◌, ◌≤◌, ◌/◌, length};
-ghost use Rattle.hits.specs.Hit.{hit_size, hit_of, put, hit_at, written, hit_part};
+ghost use Rattle.std.specs.Prelude.{◌≡◌, ◌<◌, ◌≤◌, ◌/◌, length, map};
+ghost use Rattle.hits.specs.Hit.{hit_size, numbers, hit_from, put, hit_at, written, hit_part};
 ghost use Rattle.hits.specs.Need.{short};
+ghost use Rattle.hits.specs.Stands.{OfHits};
 ghost use Rattle.hits.specs.Listed.{listed, one, both, turned, exchanged};
 
 use curves::Point;
@@ -26,7 +27,7 @@ pub struct CurveHit {
 }
 
 // What a hunt counts. The four fates, hits among them, add up to the brackets.
-#[derive(Clone, Copy)]
+#[derive(Clone, Copy, Default)]
 pub struct Tally {
     pub hits: usize,
     pub brackets: u32,
@@ -36,121 +37,132 @@ pub struct Tally {
     pub evaluations: u32,
 }
 
-// A candidate that the tests have kept or dropped.
+// What a closed form finds, in order: the roots of a quadratic, the crossings at them. Three cases and no container, since the time of these calls is measured.
 #[derive(Clone, Copy)]
-pub enum Crossing {
-    At(CurveHit),
-    Miss,
+pub enum UpToTwo<T> {
+    Zero,
+    One(T),
+    Two(T, T),
 }
 
-// The crossings that a closed form finds, in order.
-#[derive(Clone, Copy)]
-pub enum Crossings {
-    None,
-    One(CurveHit),
-    Two(CurveHit, CurveHit),
+impl<T> UpToTwo<T> {
+    // One candidate, if it is kept.
+    pub fn one(a: Option<T>) -> UpToTwo<T>
+        ensures { result ≡ one a }
+    {
+        match a {
+            Some(h) => UpToTwo::One(h),
+            None => UpToTwo::Zero,
+        }
+    }
+
+    // Those of two candidates that are kept.
+    pub fn both(a: Option<T>, b: Option<T>) -> UpToTwo<T>
+        ensures { result ≡ both a b }
+    {
+        match (a, b) {
+            (Some(h), Some(g)) => UpToTwo::Two(h, g),
+            (Some(h), None) | (None, Some(h)) => UpToTwo::One(h),
+            (None, None) => UpToTwo::Zero,
+        }
+    }
 }
 
 // Whether what is lent is too short for so many hits.
+#[tactic(auto, unfolding(crate::specs::Need::short))]
 pub fn short(hits: usize, lent: Lengths) -> bool
     ensures { result ≡ short hits lent }
 {
     lent.room / HIT < hits
 }
 
-pub fn one(a: Crossing) -> Crossings
-    ensures { result ≡ one a }
-{
-    match a {
-        Crossing::At(h) => Crossings::One(h),
-        Crossing::Miss => Crossings::None,
+impl From<[f64; HIT]> for CurveHit {
+    ghost from_gives = { λ ns h. h ≡ hit_from ns };
+
+    fn from(ns: [f64; HIT]) -> CurveHit {
+        let [t_a, t_b, x, y] = ns;
+        CurveHit {
+            t_a,
+            t_b,
+            pos: Point { x, y },
+        }
     }
 }
 
-// Two candidates in order.
-pub fn both(a: Crossing, b: Crossing) -> Crossings
-    ensures { result ≡ both a b }
-{
-    match a {
-        Crossing::At(h) => match b {
-            Crossing::At(g) => Crossings::Two(h, g),
-            Crossing::Miss => Crossings::One(h),
-        },
-        Crossing::Miss => match b {
-            Crossing::At(g) => Crossings::One(g),
-            Crossing::Miss => Crossings::None,
-        },
+impl From<CurveHit> for [f64; HIT] {
+    ghost from_gives = { λ h ns. ns ≡ numbers h };
+
+    fn from(h: CurveHit) -> [f64; HIT] {
+        [h.t_a, h.t_b, h.pos.x, h.pos.y]
     }
 }
 
-fn turned(h: CurveHit) -> CurveHit
-    ensures { result ≡ turned h }
-{
-    let pos = h.pos;
-    CurveHit {
-        t_a: h.t_b,
-        t_b: h.t_a,
-        pos,
+impl CurveHit {
+    fn turned(self) -> CurveHit
+        ensures { result ≡ turned self }
+    {
+        CurveHit {
+            t_a: self.t_b,
+            t_b: self.t_a,
+            ..self
+        }
     }
 }
 
-// The same crossings with the curves in the other order.
-pub fn exchanged(c: Crossings) -> Crossings
-    ensures { result ≡ exchanged c }
-{
-    match c {
-        Crossings::None => Crossings::None,
-        Crossings::One(h) => Crossings::One(turned(h)),
-        Crossings::Two(h, g) => Crossings::Two(turned(h), turned(g)),
+impl UpToTwo<CurveHit> {
+    // The same crossings with the curves in the other order.
+    pub fn exchanged(self) -> UpToTwo<CurveHit>
+        ensures { result ≡ exchanged self }
+    {
+        match self {
+            UpToTwo::Zero => UpToTwo::Zero,
+            UpToTwo::One(h) => UpToTwo::One(h.turned()),
+            UpToTwo::Two(h, g) => UpToTwo::Two(h.turned(), g.turned()),
+        }
     }
-}
-
-pub fn hit_of(t_a: f64, t_b: f64, pos: Point) -> CurveHit
-    ensures { result ≡ hit_of t_a t_b pos }
-{
-    CurveHit { t_a, t_b, pos }
 }
 
 // The hit i of those in the room.
+#[tactic(auto, using(crate::proofs::Rooms::chunk_hit))]
 pub fn hit_at(room: &[f64], i: usize) -> CurveHit
     requires { i < length room.now / hit_size }
     ensures { result ≡ hit_at room.now i }
 {
-    let from = i * HIT;
-    CurveHit {
-        t_a: room[from],
-        t_b: room[from + 1],
-        pos: Point {
-            x: room[from + 2],
-            y: room[from + 3],
-        },
-    }
+    CurveHit::from(room.as_chunks::<HIT>().0[i])
+}
+
+// The first hits in the room, each as its numbers.
+#[tactic(auto, using(crate::proofs::Rooms::hits_read))]
+pub fn first_hits(room: &[f64], count: usize) -> &[[f64; HIT]]
+    requires { count ≤ length room.now / hit_size }
+    ensures { OfHits count room.now (λ hs. map hit_from result.now ≡ hs) }
+{
+    &room.as_chunks::<HIT>().0[..count]
 }
 
 // Writes a hit after the first n.
+#[tactic(auto, unfolding(crate::specs::Hit::put))]
 pub fn put(room: &mut [f64], n: usize, h: CurveHit)
     requires { n < length room.old / hit_size }
     ensures { room.new ≡ put room.old n h }
 {
     let at = n * HIT;
-    room[at] = h.t_a;
-    room[at + 1] = h.t_b;
-    room[at + 2] = h.pos.x;
-    room[at + 3] = h.pos.y;
+    room[at..at + HIT].copy_from_slice(&<[f64; HIT]>::from(h));
 }
 
 // Writes the crossings and answers how many they are.
-pub fn write(room: &mut [f64], c: Crossings) -> usize
+#[tactic(auto, using(crate::proofs::Rooms::written_none, crate::proofs::Rooms::put_first, crate::proofs::Rooms::put_second))]
+pub fn write(room: &mut [f64], c: UpToTwo<CurveHit>) -> usize
     requires { length (listed c) ≤ length room.old / hit_size }
     ensures { (result ≡ length (listed c)) × (room.new ≡ written (listed c) room.old) }
 {
     match c {
-        Crossings::None => 0,
-        Crossings::One(h) => {
+        UpToTwo::Zero => 0,
+        UpToTwo::One(h) => {
             put(room, 0, h);
             1
         }
-        Crossings::Two(h, g) => {
+        UpToTwo::Two(h, g) => {
             put(room, 0, h);
             put(room, 1, g);
             2
@@ -159,16 +171,13 @@ pub fn write(room: &mut [f64], c: Crossings) -> usize
 }
 
 // The numbers of the hit i, as that part of the room; the empty part where there is no such hit or it does not fit.
+#[tactic(auto, unfolding(crate::specs::Hit::hit_part))]
 pub fn hit<'a>(room: &'a [f64], hits: usize, i: usize) -> &'a [f64]
     ensures { result.now ≡ hit_part room.now hits i }
 {
-    if hits <= i {
-        return &room[0..0];
-    }
-    if room.len() / HIT <= i {
-        return &room[0..0];
+    if hits.min(room.len() / HIT) <= i {
+        return &[];
     }
     let at = i * HIT;
-    let end = at + HIT;
-    &room[at..end]
+    &room[at..at + HIT]
 }

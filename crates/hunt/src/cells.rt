@@ -8,25 +8,20 @@ use hunt_bracket::Cell;
 use scalar::TAU;
 
 // Depth k has 256 * 2^k cells.
-pub fn cells(depth: u32) -> u32
+pub fn cell_count(depth: u32) -> u32
     requires { depth ≤ 7 }
     ensures { result ≡ cells depth }
 {
-    let mut n: u32 = 256;
-    for _ in 0..depth {
-        n = n * 2;
-    }
-    n
+    256 << depth
 }
 
 // From start to end, or once around.
+#[tactic(auto, unfolding(crate::specs::Cells::span))]
 pub fn span(a: Arc) -> f64
     ensures { result ≡ span a }
 {
-    if a.closed {
-        return a.start + TAU - a.start;
-    }
-    a.end - a.start
+    let end = if a.closed { a.start + TAU } else { a.end };
+    end - a.start
 }
 
 pub fn step(span: f64, n: u32) -> f64
@@ -35,16 +30,19 @@ pub fn step(span: f64, n: u32) -> f64
     span / (n as f64)
 }
 
+#[tactic(auto, unfolding(crate::specs::Cells::sample))]
 pub fn sample(start: f64, step: f64, i: u32) -> f64
     ensures { result ≡ sample start step i }
 {
     if i == 0 {
-        return start;
+        start
+    } else {
+        start + step * (i as f64)
     }
-    start + step * (i as f64)
 }
 
 // The Rust's rule: whether these values at a cell's ends bracket a crossing.
+#[tactic(auto, unfolding(crate::specs::Cells::bracket))]
 fn bracket(first: f64, second: f64) -> bool
     ensures { result ≡ bracket first second }
 {
@@ -52,6 +50,7 @@ fn bracket(first: f64, second: f64) -> bool
 }
 
 // Which cell of a depth closes the span, counted from 1. Depth 0 is the Rust's, which has no such cell.
+#[tactic(auto, unfolding(crate::specs::Cells::closing_cell))]
 pub fn closing_cell(depth: u32) -> u32
     requires { depth ≤ 7 }
     ensures { result ≡ closing_cell depth }
@@ -59,10 +58,11 @@ pub fn closing_cell(depth: u32) -> u32
     if depth == 0 {
         return 0;
     }
-    cells(depth)
+    cell_count(depth)
 }
 
 // Whether a cell brackets a crossing: one bracket, also where both rules hold.
+#[tactic(auto, unfolding(crate::specs::Cells::brackets))]
 pub fn brackets(c: Cell) -> bool
     ensures { result ≡ brackets c }
 {

@@ -1,24 +1,10 @@
 // The counts of a hunt.
 ghost use Rattle.std.specs.Prelude.{◌≡◌, ◌<◌, ◌+◌, ◌^◌};
-ghost use Rattle.hits.specs.Outcome.{Outcome, tally, none};
+ghost use Rattle.hits.specs.Outcome.{Outcome, tally};
 ghost use Rattle.hunt.specs.Visits.{Small, settle, further};
 
 use hits::Tally;
 use hunt_bracket::Fate;
-
-// Nothing is sampled.
-pub fn none() -> Tally
-    ensures { result ≡ tally none }
-{
-    Tally {
-        hits: 0,
-        brackets: 0,
-        outside_a: 0,
-        outside_b: 0,
-        doubles: 0,
-        evaluations: 0,
-    }
-}
 
 // n more angles were looked at.
 pub fn looked(t: Tally, n: u32) -> Tally
@@ -26,12 +12,8 @@ pub fn looked(t: Tally, n: u32) -> Tally
     ensures { result ≡ further n t }
 {
     Tally {
-        hits: t.hits,
-        brackets: t.brackets,
-        outside_a: t.outside_a,
-        outside_b: t.outside_b,
-        doubles: t.doubles,
         evaluations: t.evaluations + n,
+        ..t
     }
 }
 
@@ -40,24 +22,26 @@ pub fn settled(t: Tally, d: Fate) -> Tally
     requires { Small t }
     ensures { (o : Outcome) → t ≡ tally o → result ≡ tally (settle d o) }
 {
-    let mut r = t;
-    r.brackets = t.brackets + 1;
+    let t = Tally {
+        brackets: t.brackets + 1,
+        ..t
+    };
     match d {
-        Fate::OutsideA => {
-            r.outside_a = t.outside_a + 1;
-            r
-        }
-        Fate::OutsideB => {
-            r.outside_b = t.outside_b + 1;
-            r
-        }
-        Fate::Double => {
-            r.doubles = t.doubles + 1;
-            r
-        }
-        Fate::Hit(_) => {
-            r.hits = t.hits + 1;
-            r
-        }
+        Fate::OutsideA => Tally {
+            outside_a: t.outside_a + 1,
+            ..t
+        },
+        Fate::OutsideB => Tally {
+            outside_b: t.outside_b + 1,
+            ..t
+        },
+        Fate::Double => Tally {
+            doubles: t.doubles + 1,
+            ..t
+        },
+        Fate::Hit(_) => Tally {
+            hits: t.hits + 1,
+            ..t
+        },
     }
 }

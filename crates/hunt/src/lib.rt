@@ -12,36 +12,36 @@ ghost use Rattle.hits.specs.Holds.{Holds, Steps};
 ghost use Rattle.hunt.specs.Visits.{Small, visit, scanned};
 ghost use Rattle.hunt.specs.Hunt.{early, hunted};
 
-pub use cells::{brackets, closing_cell, sample};
+pub use cells::{brackets, cell_count, closing_cell, sample};
 use curves::Arc;
 use hits::Tally;
-use hunt_bracket::{Cell, Frame, framed, narrow, value};
+use hunt_bracket::{Cell, Frame};
 
 // One cell: the tally goes in and comes back, a hit goes to the room.
-pub fn visit(f: Frame, c: Cell, t: Tally, room: &mut [f64]) -> Tally
+pub fn visit(f: &Frame, c: Cell, t: Tally, room: &mut [f64]) -> Tally
     requires { Small t × (t.evaluations + 62 < 2 ^ 32) × (t.hits < length room.old / hit_size) }
-    ensures { Steps (visit f c) t room.old result room.new }
+    ensures { Steps (visit f.now c) t room.old result room.new }
 {
     let seen = counts::looked(t, 1);
     if brackets(c) {
-        let at = narrow(f, c);
+        let at = f.narrow(c);
         return settling::settle(f, at, counts::looked(seen, 61), room);
     }
     seen
 }
 
 // The first n cells of the samples start + step * i.
-fn scan(f: Frame, start: f64, step: f64, closing: u32, n: u32, room: &mut [f64]) -> Tally
+fn scan(f: &Frame, start: f64, step: f64, closing: u32, n: u32, room: &mut [f64]) -> Tally
     requires { (n ≤ 32768) × (n ≤ length room.old / hit_size) }
-    ensures { Holds (scanned f start step closing n) room.old result room.new }
+    ensures { Holds (scanned f.now start step closing n) room.old result room.new }
 {
     let mut lo = start;
-    let mut g_lo = value(f, start);
-    let mut t = counts::looked(counts::none(), 1);
+    let mut g_lo = f.value(start);
+    let mut t = counts::looked(Tally::default(), 1);
     for i in 0..n {
         let next = i + 1;
         let hi = sample(start, step, next);
-        let g_hi = value(f, hi);
+        let g_hi = f.value(hi);
         let c = Cell {
             lo,
             hi,
@@ -57,25 +57,12 @@ fn scan(f: Frame, start: f64, step: f64, closing: u32, n: u32, room: &mut [f64])
 }
 
 // Whether nothing is sampled: an ellipse of b that is too small, a span of a that is too short.
-fn early(f: Frame, span: f64) -> bool
-    ensures { result ≡ early f.radii span }
+#[tactic(auto, unfolding(crate::specs::Hunt::early))]
+fn early(f: &Frame, span: f64) -> bool
+    ensures { result ≡ early f.now.radii span }
 {
     let r = f.radii;
-    if r.a < 1e-12 {
-        return true;
-    }
-    if r.b < 1e-12 {
-        return true;
-    }
-    scalar::abs(cells::step(span, 256)) < 1e-15
-}
-
-// How many cells a depth has.
-pub fn cell_count(depth: u32) -> u32
-    requires { depth ≤ 7 }
-    ensures { result ≡ cells depth }
-{
-    cells::cells(depth)
+    r.a < 1e-12 || r.b < 1e-12 || scalar::abs(cells::step(span, 256)) < 1e-15
 }
 
 // The hunt at a depth, with room for a hit in each cell.
@@ -83,12 +70,12 @@ pub fn hunt(a: Arc, b: Arc, depth: u32, room: &mut [f64]) -> Tally
     requires { (depth ≤ 7) × (cells depth ≤ length room.old / hit_size) }
     ensures { Holds (hunted a b depth) room.old result room.new }
 {
-    let f = framed(a, b);
+    let f = &Frame::new(a, b);
     let span = cells::span(a);
     if early(f, span) {
-        return counts::none();
+        return Tally::default();
     }
-    let n = cells::cells(depth);
+    let n = cell_count(depth);
     scan(
         f,
         a.start,

@@ -1,13 +1,12 @@
 -- 01, 'Span and crossings': "Each bracket has one fate, tested in this order: outside a's span, outside b's span, double (some earlier hit with t_a nearer than 1e-7, the search
 -- stopping at the first), hit." 000: `if !out.iter().any(|h| (h.t_a - ta).abs() < 1e-7)`.
-use Rattle.std.specs.Prelude.{Bool, false, cond, ◌||◌, List, [], ◌∷◌, Float}
+use Rattle.std.specs.Prelude.{Bool, cond, Option, Some, None, List, [], ◌∷◌, Float}
+use Rattle.std.specs.List.{list_any}
 use Rattle.std.specs.Float.Ieee.{lt}
 use Rattle.laws.specs.Rounded.{◌⊖◌}
 use Rattle.laws.specs.Literal.{ten⁻⁷}
 use Rattle.laws.specs.Size.{abs}
 use Rattle.curves.specs.declared.Point.{Point}
-use Rattle.arc.specs.declared.InSpan.{InSpan}
-use Rattle.arc.specs.declared.InSpan.TheVariants.{At, Outside}
 use Rattle.arc.specs.Span.{arc_param_in_span}
 use Rattle.hits.specs.declared.CurveHit.{CurveHit}
 use Rattle.hits.specs.Hit.{hit_of}
@@ -21,13 +20,12 @@ near p q = lt (abs (p ⊖ q)) ten⁻⁷
 
 -- whether one of the hits has its angle on a near t
 unfoldable pub double : Float → List CurveHit → Bool
-double t [] = false
-double t (h ∷ hs) = near h.t_a t || double t hs
+double t hs = list_any (λ h. near h.t_a t) hs
 
-abbrev pub judged : List CurveHit → Point → InSpan → InSpan → Fate
-judged hs pos Outside b = OutsideA
-judged hs pos (At ta) Outside = OutsideB
-judged hs pos (At ta) (At tb) = cond (double ta hs) Double (Hit (hit_of ta tb pos))
+abbrev pub judged : List CurveHit → Point → Option Float → Option Float → Fate
+judged hs pos None b = OutsideA
+judged hs pos (Some ta) None = OutsideB
+judged hs pos (Some ta) (Some tb) = cond (double ta hs) Double (Hit (hit_of ta tb pos))
 
 -- of a bracket that was narrowed to the angle t, after the hits hs
 unfoldable pub fate : Frame → List CurveHit → Float → Fate

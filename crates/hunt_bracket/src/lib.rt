@@ -1,15 +1,13 @@
 // One bracket of the hunt: the value at an angle, the narrowing to one angle, and what becomes of it.
 #![tactic(auto)]
 
-pub mod fates;
+mod fates;
 mod narrowing;
 mod values;
 
 use curves::{Arc, Radii};
 use hits::CurveHit;
-pub use narrowing::narrow;
 use sine::SinCos;
-pub use values::{framed, value};
 
 // The two arcs with what one evaluation needs of them, worked out once: the sine and the cosine of both rotations, b's effective radii.
 #[derive(Clone, Copy)]

@@ -5,51 +5,52 @@ ghost use Rattle.hunt_bracket.specs.Frame.{frame, point, unit, value, theta};
 use crate::Frame;
 use curves::{Arc, Point};
 
-pub fn framed(a: Arc, b: Arc) -> Frame
-    ensures { result ≡ frame a b }
-{
-    Frame {
-        a,
-        b,
-        turn_a: sine::sin_cos(a.rotation),
-        turn_b: sine::sin_cos(b.rotation),
-        radii: arc::arc_radii(b),
+impl Frame {
+    #[tactic(auto, using(crate::proofs::Frames::sin_cos_is), unfolding(crate::specs::Frame::frame))]
+    pub fn new(a: Arc, b: Arc) -> Frame
+        ensures { result ≡ frame a b }
+    {
+        Frame {
+            a,
+            b,
+            turn_a: sine::sin_cos(a.rotation),
+            turn_b: sine::sin_cos(b.rotation),
+            radii: arc::arc_radii(b),
+        }
     }
-}
 
-// The point of a at the angle t.
-pub fn point(f: Frame, t: f64) -> Point
-    ensures { result ≡ point f t }
-{
-    let a = f.a;
-    let turn = f.turn_a;
-    let center = a.center;
-    arc::turn_point(center, a.radius, a.radius_b, turn, t)
-}
+    // The point of a at the angle t.
+    #[tactic(auto, unfolding(crate::specs::Frame::point))]
+    pub fn point(&self, t: f64) -> Point
+        ensures { result ≡ point self.now t }
+    {
+        let a = self.a;
+        arc::turn_point(a.center, a.radius, a.radius_b, self.turn_a, t)
+    }
 
-// A point in the frame in which b's curve is the unit circle.
-fn unit(f: Frame, p: Point) -> Point
-    ensures { result ≡ unit f p }
-{
-    let b = f.b;
-    let turn = f.turn_b;
-    let radii = f.radii;
-    let center = b.center;
-    arc::to_unit(p, center, turn, radii)
-}
+    // A point in the frame in which b's curve is the unit circle.
+    #[tactic(auto, unfolding(crate::specs::Frame::unit))]
+    fn unit(&self, p: Point) -> Point
+        ensures { result ≡ unit self.now p }
+    {
+        arc::to_unit(p, self.b.center, self.turn_b, self.radii)
+    }
 
-// 000's g at a's point: 0 on b, negative inside.
-pub fn value(f: Frame, t: f64) -> f64
-    ensures { result ≡ value f t }
-{
-    let u = unit(f, point(f, t));
-    u.x * u.x + u.y * u.y - 1.0
-}
+    // 000's g at a's point: 0 on b, negative inside.
+    #[tactic(auto, unfolding(crate::specs::Frame::value))]
+    pub fn value(&self, t: f64) -> f64
+        ensures { result ≡ value self.now t }
+    {
+        let u = self.unit(self.point(t));
+        u.x * u.x + u.y * u.y - 1.0
+    }
 
-// The angle on b of a point.
-pub fn theta(f: Frame, p: Point) -> f64
-    ensures { result ≡ theta f p }
-{
-    let u = unit(f, p);
-    arctan::atan2(u.y, u.x)
+    // The angle on b of a point.
+    #[tactic(auto, unfolding(crate::specs::Frame::theta))]
+    pub fn theta(&self, p: Point) -> f64
+        ensures { result ≡ theta self.now p }
+    {
+        let u = self.unit(p);
+        arctan::atan2(u.y, u.x)
+    }
 }

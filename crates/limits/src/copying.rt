@@ -4,7 +4,6 @@ ghost use Rattle.std.specs.Prelude.{◌≤◌};
 
 use curves::Arc;
 use hits::{HIT, Tally};
-use hunt_bracket::fates::fate;
 use hunt_bracket::{Cell, Fate, Frame};
 use scalar::TAU;
 
@@ -16,13 +15,12 @@ struct Copying {
 }
 
 // The first bracket is narrowed; of every later one nothing is worked out.
-fn copied(f: Frame, c: Cell, s: Copying, room: &[f64]) -> Fate {
-    let t = s.tally;
-    let first = s.first;
-    if t.brackets == 0 {
-        return fate(f, hunt_bracket::narrow(f, c), room, 0);
+fn copied(f: &Frame, c: Cell, s: Copying) -> Fate {
+    if s.tally.brackets == 0 {
+        f.fate(f.narrow(c), &[])
+    } else {
+        s.first
     }
-    first
 }
 
 // One more bracket, with the fate d: a hit goes to the room.
@@ -46,9 +44,9 @@ fn settled(t: Tally, d: Fate, room: &mut [f64]) -> Tally {
     r
 }
 
-fn visit(f: Frame, c: Cell, s: Copying, room: &mut [f64]) -> Copying {
+fn visit(f: &Frame, c: Cell, s: Copying, room: &mut [f64]) -> Copying {
     if hunt::brackets(c) {
-        let d = copied(f, c, s, room);
+        let d = copied(f, c, s);
         return Copying {
             tally: settled(s.tally, d, room),
             first: d,
@@ -61,28 +59,24 @@ fn visit(f: Frame, c: Cell, s: Copying, room: &mut [f64]) -> Copying {
 pub fn hunt(a: Arc, b: Arc, depth: u32, room: &mut [f64]) -> Tally
     requires { depth ≤ 7 }
 {
-    let f = hunt_bracket::framed(a, b);
+    let f = &Frame::new(a, b);
     let n = hunt::cell_count(depth);
     let closing = hunt::closing_cell(depth);
     let step = TAU / (n as f64);
     let start = a.start;
     let mut lo = start;
-    let mut g_lo = hunt_bracket::value(f, lo);
+    let mut g_lo = f.value(lo);
     let mut s = Copying {
         tally: Tally {
-            hits: 0,
-            brackets: 0,
-            outside_a: 0,
-            outside_b: 0,
-            doubles: 0,
             evaluations: n.wrapping_add(1),
+            ..Tally::default()
         },
         first: Fate::Double,
     };
     for i in 0..n {
         let next = i + 1;
         let hi = hunt::sample(start, step, next);
-        let g_hi = hunt_bracket::value(f, hi);
+        let g_hi = f.value(hi);
         let c = Cell {
             lo,
             hi,

@@ -1,6 +1,6 @@
 -- 000, `nearest_arc_param`: "In-span parametric angle of the point on the arc nearest to `p`. For partial arcs a nearest point outside the span clamps to the nearer endpoint's
 -- angle." 01, 'Easy to get wrong': "`point_to_arc_dist` takes the end when both ends are equally far, `nearest_arc_param` the start." Operation by operation.
-use Rattle.std.specs.Prelude.{cond, not, Float}
+use Rattle.std.specs.Prelude.{cond, not, Option, unwrap_or, Float}
 use Rattle.std.specs.Float.Ieee.{le}
 use Rattle.laws.specs.Rounded.{◌⊕◌, ◌⊖◌}
 use Rattle.laws.specs.Size.{abs}
@@ -12,8 +12,6 @@ use Rattle.scalar.specs.Clamp.{clamp}
 use Rattle.arctan.specs.Rule.{arctangent}
 use Rattle.curves.specs.declared.Point.{Point}
 use Rattle.curves.specs.declared.Arc.{Arc}
-use Rattle.arc.specs.declared.InSpan.{InSpan}
-use Rattle.arc.specs.declared.InSpan.TheVariants.{At, Outside}
 use Rattle.arc.specs.ArcPoint.{arc_start_pos, arc_end_pos}
 use Rattle.arc.specs.Span.{arc_param_in_span}
 use Rattle.nearest.specs.Squared.{squared_dist}
@@ -27,15 +25,11 @@ end_param arc p =
     let de = squared_dist p (arc_end_pos arc) in
     cond (le ds de) arc.start arc.end
 
--- `if let Some(t) = .. { return t; }`, and else the other
-abbrev pub in_span_or : InSpan → Float → Float
-in_span_or (At t) other = t
-in_span_or Outside other = other
-
+-- `if let Some(t) = .. { return t; }`, and else the end's
 unfoldable pub on_circle : Arc → Point → Float
 on_circle arc p =
     let theta = arctangent (p.y ⊖ arc.center.y) (p.x ⊖ arc.center.x) in
-    in_span_or (arc_param_in_span arc theta) (end_param arc p)
+    unwrap_or (arc_param_in_span arc theta) (end_param arc p)
 
 -- `ea`
 unfoldable pub last_angle : Arc → Float

@@ -4,7 +4,6 @@ ghost use Rattle.nearest.specs.ArcParam.{end_param, on_circle, last_angle, on_el
 
 use crate::thirds::Stretch;
 use crate::{points, samples, thirds};
-use arc::InSpan;
 use curves::{Arc, Point};
 use scalar::TAU;
 
@@ -18,14 +17,12 @@ fn end_param(arc: Arc, p: Point) -> f64
     if ds <= de { arc.start } else { arc.end }
 }
 
+#[tactic(auto, unfolding(crate::specs::ArcParam::on_circle))]
 fn on_circle(arc: Arc, p: Point) -> f64
     ensures { result ≡ on_circle arc p }
 {
     let theta = arctan::atan2(p.y - arc.center.y, p.x - arc.center.x);
-    match arc::arc_param_in_span(arc, theta) {
-        InSpan::At(t) => t,
-        InSpan::Outside => end_param(arc, p),
-    }
+    arc::arc_param_in_span(arc, theta).unwrap_or_else(|| end_param(arc, p))
 }
 
 fn last_angle(arc: Arc) -> f64

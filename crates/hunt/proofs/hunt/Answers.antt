@@ -4,7 +4,7 @@ use mathlib.Core.Bool.{true, false}
 use Prim.Native.Nat.{◌≤◌, ◌^◌}
 use native.Mathlib.Omega.{arith}
 use lib.Pow.{pow_mono}
-use Rattle.hits.proofs.Held.{holds_empty}
+use Rattle.hits.proofs.Held.{holds_empty, no_counts}
 use Rattle.hunt.specs.Visits.{scanned}
 use Rattle.hunt.specs.Hunt.{hunted}
 use Rattle.hunt.proofs.Hunts.{hunted_test, hunted-early, hunted_on}
@@ -13,20 +13,20 @@ use Rattle.hunt.proofs.hunt.Goals as goal
 pub returns-then-early : goal.returns-then-early
 returns-then-early c =
     let z = c.args in
-    let test = hunted_test z.a z.b _ _ _ true c.framed-f.ensures c.span-span.ensures c.early.ensures c.if-early.true in
+    let test = hunted_test z.a z.b _ _ _ true c.new.ensures c.span-span.ensures c.early.ensures c.if-early.true in
     let is = hunted-early z.a z.b z.depth test in
-    rw is (holds_empty refl c.none.ensures)
+    rw is (holds_empty refl (no_counts c.default.result c.default.ensures))
 
 pub scan-requires : goal.scan-requires
 scan-requires c =
     let z = c.args in
     let power : 2 ^ z.depth ≤ 2 ^ 7 = pow_mono c.requires.0 in
-    rw c.cells-n.ensures (omega arith, c.requires.1)
+    rw c.cell_count-n.ensures (omega arith, c.requires.1)
 
 pub returns : goal.returns
 returns c =
     let z = c.args in
-    let on = hunted_test z.a z.b _ _ _ false c.framed-f.ensures c.span-span.ensures c.early.ensures c.if-early.false in
-    let is : scanned c.framed-f.result z.a.start c.step.result c.closing_cell.result c.cells-n.result ≡ hunted z.a z.b z.depth =
-    rw (c.step.ensures, c.framed-f.ensures, c.span-span.ensures, c.closing_cell.ensures, c.cells-n.ensures) (sym (hunted_on z.a z.b z.depth on)) in
+    let on = hunted_test z.a z.b _ _ _ false c.new.ensures c.span-span.ensures c.early.ensures c.if-early.false in
+    let is : scanned c.new.result z.a.start c.step.result c.closing_cell.result c.cell_count-n.result ≡ hunted z.a z.b z.depth =
+    rw (c.step.ensures, c.new.ensures, c.span-span.ensures, c.closing_cell.ensures, c.cell_count-n.ensures) (sym (hunted_on z.a z.b z.depth on)) in
     rw (← is) c.scan.ensures

@@ -23,10 +23,10 @@ unfolding visit resolve
 returns-then-brackets c =
     let z = c.args in
     λ o lent h.
-    let all = angles z.f z.c in
+    let all = angles z.f.now z.c in
     let ended = look (z.c.hi ∷ []) o in
     let first : c.looked-seen.result ≡ tally ended = c.looked-seen.ensures ∙ ap (further 1) h.counts ∙ look_counts o (z.c.hi ∷ []) 1 refl in
-    let then : c.looked.result ≡ tally (look all ended) = c.looked.ensures ∙ ap (further 61) first ∙ look_counts ended all 61 (sym (angles-length z.f z.c)) in
+    let then : c.looked.result ≡ tally (look all ended) = c.looked.ensures ∙ ap (further 61) first ∙ look_counts ended all 61 (sym (angles-length z.f.now z.c)) in
     rw (← c.brackets.ensures, c.if-brackets.true, ← c.narrow-at.ensures) (c.settle.ensures (look all ended) lent (record { counts = then; hits = h.hits }))
 
 pub returns : goal.returns

@@ -3,6 +3,7 @@ use mathlib.Core.Path.{ap, ◌∙◌}
 use mathlib.Core.List.{List}
 use Rattle.hits.specs.declared.CurveHit.{CurveHit}
 use Rattle.hits.specs.Hit.{written}
+use Rattle.hunt_bracket.specs.Fate.{fate}
 use Rattle.hunt_bracket.specs.declared.Fate.{Fate}
 use Rattle.hits.specs.Outcome.{tally}
 use Rattle.hits.proofs.Held.{holds_stands}
@@ -14,7 +15,7 @@ pub returns : goal.returns
 returns c =
     λ o lent h.
     let s = holds_stands h in
-    let d = c.fate-d.ensures o.hits lent s in
+    let d = c.fate-d.ensures ∙ ap (λ (hs : List CurveHit). fate c.args.f.now hs c.args.at) (c.first_hits.ensures o.hits lent s) in
     record {
       counts = c.settled.ensures o h.counts ∙ ap (λ (x : Fate). tally (settle x o)) d;
       hits =

@@ -1,31 +1,12 @@
-use mathlib.Core.Path.{◌≡◌, refl, sym, ◌∙◌}
-use Prim.Native.Nat.{◌+◌, ◌-◌}
-use native.Mathlib.Omega.{arith}
-use Rattle.hunt_bracket.proofs.Doubles.{double-step, double_past, double_among}
+-- `fates::seen` looks at one hit after the other, the newest first.
+use mathlib.Core.Path.{◌∙◌}
+use Rattle.std.proofs.Common.{rules, tests}
+use Rattle.std.proofs.lemmas.Iterator.Search.{any_from_yields_List}
+use Rattle.std.proofs.lemmas.Iterator.Adapters.{YieldsList-from_rev_slice}
+use Rattle.hunt_bracket.proofs.Doubles.{near_angle, double_backwards}
 use Rattle.hunt_bracket.proofs.fates.seen.Goals as goal
 
-pub loop-i-init : goal.loop-i-init
-loop-i-init c = (omega arith, refl, λ hs lent s. double_past c.args.t hs c.args.hits (omega (arith, s.count)))
-
-pub loop-i-preserved : goal.loop-i-preserved
-loop-i-preserved c =
-    let l = c.loop-i in
-    let z = c.args in
-    let next : l.i - 1 + 1 ≡ l.i = omega arith in (
-      omega arith,
-      l.invariant.1,
-      λ hs lent s. rw (← c.near.ensures, c.if-near.false, next) at (double-step z.t hs lent s (l.i - 1) _ (omega arith) c.hit_at-h.ensures) ∙ l.invariant.2 hs lent s,
-    )
-
-pub returns-after-loop-i : goal.returns-after-loop-i
-returns-after-loop-i c =
-    let l = c.loop-i in
-    let all : l.i ≡ 0 = omega arith in
-    λ hs lent s. l.invariant.1 ∙ sym (rw all at (l.invariant.2 hs lent s))
-
-pub returns-then-near : goal.returns-then-near
-returns-then-near c =
-    let l = c.loop-i in
-    let z = c.args in
-    λ hs lent s.
-    sym (double_among z.t hs (l.i - 1) (rw (← c.near.ensures, c.if-near.true) at (double-step z.t hs lent s (l.i - 1) _ (omega arith) c.hit_at-h.ensures)))
+pub returns : goal.returns
+returns c =
+    let hits = c.args.hits.now in
+    any_from_yields_List (near_angle c.args.t) _ _ _ c.any.ensures.ran (YieldsList-from_rev_slice hits cc) (λ x b q k. search (rules, tests)) ∙ double_backwards c.args.t hits
