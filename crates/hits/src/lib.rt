@@ -45,7 +45,7 @@ pub enum UpToTwo<T> {
     Two(T, T),
 }
 
-impl<T> UpToTwo<T> {
+impl<T: Copy> UpToTwo<T> {
     // One candidate, if it is kept.
     pub fn one(a: Option<T>) -> UpToTwo<T>
         ensures { result ≡ one a }
