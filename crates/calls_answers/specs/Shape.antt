@@ -1,19 +1,11 @@
 -- 01, 'Forms': "If an answer is an enum, a definition states this paper's number and values for each of the enum's cases." 01, the table of refusals: 5 "the Rust answers `None` in arc
 -- conversion, three-point arc, tangent circle or conic fit". The mark ccw is a count, 1 or 0.
-use Rattle.std.specs.Prelude.{ℕ, Bool, cond, [], ◌∷◌}
+use Rattle.std.specs.Prelude.{ℕ, Bool, cond, [], ◌∷◌, Option, Some, None}
 use Rattle.shapes.specs.declared.Near.{Near}
 use Rattle.shapes.specs.declared.Converted.{Converted}
-use Rattle.shapes.specs.declared.Conversion.{Conversion}
-use Rattle.shapes.specs.declared.Conversion.TheVariants as conversion
 use Rattle.shapes.specs.declared.Circumscribed.{Circumscribed}
-use Rattle.shapes.specs.declared.ThreePoint.{ThreePoint}
-use Rattle.shapes.specs.declared.ThreePoint.TheVariants as threePoint
 use Rattle.shapes.specs.declared.Circle.{Circle}
-use Rattle.shapes.specs.declared.TangentCircle.{TangentCircle}
-use Rattle.shapes.specs.declared.TangentCircle.TheVariants as tangentCircle
 use Rattle.shapes.specs.declared.Fitted.{Fitted}
-use Rattle.shapes.specs.declared.Fit.{Fit}
-use Rattle.shapes.specs.declared.Fit.TheVariants as fit
 use Rattle.checks.specs.Refusal.{accepted, degenerate}
 use Rattle.checks.specs.Answer.{Answer, refused}
 use Rattle.calls_answers.specs.declared.Distance.{Distance}
@@ -52,21 +44,21 @@ ellipse_told f =
     }
 
 -- ---- what the layers find, and where the Rust answers `None`
-abbrev pub conversion_told : Conversion → Answer
-conversion_told (conversion.Is c) = converted_told c
-conversion_told conversion.Degenerate = refused degenerate
+abbrev pub or_degenerate : {T : Type 0} → (T → Answer) → Option T → Answer
+or_degenerate told (Some x) = told x
+or_degenerate told None = refused degenerate
 
-abbrev pub three_point_told : ThreePoint → Answer
-three_point_told (threePoint.Is c) = circumscribed_told c
-three_point_told threePoint.Degenerate = refused degenerate
+abbrev pub conversion_told : Option Converted → Answer
+conversion_told = or_degenerate converted_told
 
-abbrev pub tangent_circle_told : TangentCircle → Answer
-tangent_circle_told (tangentCircle.Is c) = circle_told c
-tangent_circle_told tangentCircle.Degenerate = refused degenerate
+abbrev pub three_point_told : Option Circumscribed → Answer
+three_point_told = or_degenerate circumscribed_told
 
-abbrev pub fit_told : Fit → Answer
-fit_told (fit.Is f) = ellipse_told f
-fit_told fit.Degenerate = refused degenerate
+abbrev pub tangent_circle_told : Option Circle → Answer
+tangent_circle_told = or_degenerate circle_told
+
+abbrev pub fit_told : Option Fitted → Answer
+fit_told = or_degenerate ellipse_told
 
 -- ---- what each answer's cases say
 abbrev pub distance_told : Distance → Answer

@@ -6,9 +6,7 @@ ghost use Rattle.checks.specs.Answer.{withheld};
 ghost use Rattle.calls_answers.specs.Shape.{near_told, distance_told, conversion_told, center_told, three_point_told, through_told, tangent_circle_told, tangent_told, fit_told, fitted_told};
 
 use checks::DEGENERATE;
-use shapes::{
-    Circle, Circumscribed, Conversion, Converted, Fit, Fitted, Near, TangentCircle, ThreePoint,
-};
+use shapes::{Circle, Circumscribed, Converted, Fitted, Near};
 
 // A distance and the point of the curve that has it.
 #[derive(Clone, Copy)]
@@ -54,49 +52,49 @@ pub fn as_distance(no: u8, n: Near) -> Distance
     Distance::Refused(no)
 }
 
-pub fn as_center(no: u8, c: Conversion) -> Center
+pub fn as_center(no: u8, c: Option<Converted>) -> Center
     ensures { center_told result ≡ withheld no (conversion_told c) }
 {
     if no == 0 {
         return match c {
-            Conversion::Is(v) => Center::Is(v),
-            Conversion::Degenerate => Center::Refused(DEGENERATE),
+            Some(v) => Center::Is(v),
+            None => Center::Refused(DEGENERATE),
         };
     }
     Center::Refused(no)
 }
 
-pub fn as_through(no: u8, c: ThreePoint) -> Through
+pub fn as_through(no: u8, c: Option<Circumscribed>) -> Through
     ensures { through_told result ≡ withheld no (three_point_told c) }
 {
     if no == 0 {
         return match c {
-            ThreePoint::Is(v) => Through::Is(v),
-            ThreePoint::Degenerate => Through::Refused(DEGENERATE),
+            Some(v) => Through::Is(v),
+            None => Through::Refused(DEGENERATE),
         };
     }
     Through::Refused(no)
 }
 
-pub fn as_tangent(no: u8, c: TangentCircle) -> Tangent
+pub fn as_tangent(no: u8, c: Option<Circle>) -> Tangent
     ensures { tangent_told result ≡ withheld no (tangent_circle_told c) }
 {
     if no == 0 {
         return match c {
-            TangentCircle::Is(v) => Tangent::Is(v),
-            TangentCircle::Degenerate => Tangent::Refused(DEGENERATE),
+            Some(v) => Tangent::Is(v),
+            None => Tangent::Refused(DEGENERATE),
         };
     }
     Tangent::Refused(no)
 }
 
-pub fn as_fitted(no: u8, c: Fit) -> FittedArc
+pub fn as_fitted(no: u8, c: Option<Fitted>) -> FittedArc
     ensures { fitted_told result ≡ withheld no (fit_told c) }
 {
     if no == 0 {
         return match c {
-            Fit::Is(v) => FittedArc::Is(v),
-            Fit::Degenerate => FittedArc::Refused(DEGENERATE),
+            Some(v) => FittedArc::Is(v),
+            None => FittedArc::Refused(DEGENERATE),
         };
     }
     FittedArc::Refused(no)

@@ -13,31 +13,31 @@ use Rattle.conics.specs.declared.conic.Conic.{Conic}
 use Rattle.conics.specs.declared.axes.Eigen.{Eigen}
 use Rattle.conics.specs.declared.axes.Squares.{Squares}
 
-unfoldable pub determinant : Conic → Float
+abbrev pub determinant : Conic → Float
 determinant q = q.a ⊗ q.c ⊖ q.b ⊗ q.b
 
-unfoldable pub center_of : Conic → Float → Point
+abbrev pub center_of : Conic → Float → Point
 center_of q det2 = record { x = (q.b ⊗ q.e ⊖ q.c ⊗ q.d) ⊘ det2; y = (q.b ⊗ q.d ⊖ q.a ⊗ q.e) ⊘ det2 }
 
-unfoldable pub eigenvalues : Conic → Eigen
+abbrev pub eigenvalues : Conic → Eigen
 eigenvalues q =
     let trace = q.a ⊕ q.c in
     let disc = square_root ((q.a ⊖ q.c) ⊗ (q.a ⊖ q.c) ⊕ four ⊗ q.b ⊗ q.b) in
     record { ev1 = (trace ⊕ disc) ⊘ two; ev2 = (trace ⊖ disc) ⊘ two }
 
-unfoldable pub either_flat : Eigen → Bool
+abbrev pub either_flat : Eigen → Bool
 either_flat ev = lt (abs ev.ev1) ten⁻¹² || lt (abs ev.ev2) ten⁻¹²
 
 -- "For canonical form: ev1 * x'^2 + ev2 * y'^2 + f' = 0 => x'^2 / (-f'/ev1) + y'^2 / (-f'/ev2) = 1"
-unfoldable pub radii_squared : Conic → Point → Eigen → Squares
+abbrev pub radii_squared : Conic → Point → Eigen → Squares
 radii_squared q center ev =
     let f_prime = q.f ⊕ q.d ⊗ center.x ⊕ q.e ⊗ center.y in
     record { rx_sq = neg f_prime ⊘ ev.ev1; ry_sq = neg f_prime ⊘ ev.ev2 }
 
-unfoldable pub either_unreal : Squares → Bool
+abbrev pub either_unreal : Squares → Bool
 either_unreal s = le s.rx_sq zero || le s.ry_sq zero
 
-unfoldable pub rotation : Conic → Eigen → Float
+abbrev pub rotation : Conic → Eigen → Float
 rotation q ev =
     cond (lt ten⁻¹² (abs q.b)) (arctangent (ev.ev1 ⊖ q.a) q.b)
     (cond (le q.a q.c) zero frac_pi2)

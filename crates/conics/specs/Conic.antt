@@ -9,17 +9,17 @@ use Rattle.conics.specs.declared.conic.Conic.{Conic}
 use Rattle.conics.specs.Lines.{◌!◌, line_value}
 
 -- "Find lambda for this target"
-unfoldable pub lambda : List Float → List Float → Point → Float → Float
+abbrev pub lambda : List Float → List Float → Point → Float → Float
 lambda l1 l2 target_mid m_val =
     let l1_val = line_value l1 target_mid in
     let l2_val = line_value l2 target_mid in
     neg (l1_val ⊗ l2_val) ⊘ (m_val ⊗ m_val)
 
-unfoldable pub entry : List Float → List Float → List Float → Float → ℕ → ℕ → Float
+abbrev pub entry : List Float → List Float → List Float → Float → ℕ → ℕ → Float
 entry l1 l2 m lambda i j = (l1 ! i ⊗ l2 ! j ⊕ l2 ! i ⊗ l1 ! j) ⊘ two ⊕ lambda ⊗ m ! i ⊗ m ! j
 
 -- the six entries that 001 reads
-unfoldable pub conic_matrix : List Float → List Float → List Float → Float → Conic
+abbrev pub conic_matrix : List Float → List Float → List Float → Float → Conic
 conic_matrix l1 l2 m lambda =
     let q = entry l1 l2 m lambda in
     record { a = q 0 0; b = q 0 1; c = q 1 1; d = q 0 2; e = q 1 2; f = q 2 2 }

@@ -11,15 +11,15 @@ infixl 80 ◌!◌
 abbrev pub ◌!◌ : List Float → ℕ → Float
 l ! i = get_or l i nan
 
-unfoldable pub chord : Point → Point → Point
+abbrev pub chord : Point → Point → Point
 chord p1 p2 = record { x = p2.x ⊖ p1.x; y = p2.y ⊖ p1.y }
 
 -- the line through p in the direction t
-unfoldable pub line_through : Point → Point → List Float
+abbrev pub line_through : Point → Point → List Float
 line_through p t = t.y ∷ neg t.x ∷ neg (t.y ⊗ p.x ⊖ t.x ⊗ p.y) ∷ []
 
-unfoldable pub normalized : List Float → Float → List Float
+abbrev pub normalized : List Float → Float → List Float
 normalized m m_len = m ! 0 ⊘ m_len ∷ m ! 1 ⊘ m_len ∷ m ! 2 ⊘ m_len ∷ []
 
-unfoldable pub line_value : List Float → Point → Float
+abbrev pub line_value : List Float → Point → Float
 line_value l p = l ! 0 ⊗ p.x ⊕ l ! 1 ⊗ p.y ⊕ l ! 2

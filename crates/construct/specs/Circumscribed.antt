@@ -1,6 +1,6 @@
 -- 000, `circumscribed_arc`: "Compute circumscribed circle arc from 3 points (start, end, mid on arc). Returns (center, radius, start_angle, end_angle, ccw) or None if collinear.
 -- `ccw` is true if the arc from p1 to p2 passing through p3 goes counter-clockwise." Operation by operation.
-use Rattle.std.specs.Prelude.{cond, Float}
+use Rattle.std.specs.Prelude.{cond, Option, Some, None, Float}
 use Rattle.std.specs.Float.Ieee.{lt}
 use Rattle.laws.specs.Rounded.{◌⊕◌, ◌⊖◌, ◌⊗◌, ◌⊘◌}
 use Rattle.laws.specs.Literal.{two, ten⁻¹²}
@@ -8,16 +8,15 @@ use Rattle.laws.specs.Size.{abs}
 use Rattle.arctan.specs.Rule.{arctangent}
 use Rattle.curves.specs.declared.Point.{Point}
 use Rattle.arc.specs.Span.{norm_tau}
-use Rattle.shapes.specs.declared.ThreePoint.{ThreePoint}
-use Rattle.shapes.specs.declared.ThreePoint.TheVariants.{Is, Degenerate}
+use Rattle.shapes.specs.declared.Circumscribed.{Circumscribed}
 use Rattle.root.specs.Norm.{norm}
 
 -- `(ay - uy).atan2(ax - ux)`: the angle of p as seen from u
-unfoldable pub bearing : Point → Point → Float
+abbrev pub bearing : Point → Point → Float
 bearing u p = arctangent (p.y ⊖ u.y) (p.x ⊖ u.x)
 
 -- the point that is equally far from a, b and c, where d is twice the determinant of the three
-unfoldable pub circumcenter : Point → Point → Point → Float → Point
+abbrev pub circumcenter : Point → Point → Point → Float → Point
 circumcenter a b c d =
     let aa = a.x ⊗ a.x ⊕ a.y ⊗ a.y in
     let bb = b.x ⊗ b.x ⊕ b.y ⊗ b.y in
@@ -28,15 +27,15 @@ circumcenter a b c d =
     }
 
 -- None for points on a line
-unfoldable pub circumscribed_arc : Point → Point → Point → ThreePoint
+abbrev pub circumscribed_arc : Point → Point → Point → Option Circumscribed
 circumscribed_arc a b c =
     let d = two ⊗ (a.x ⊗ (b.y ⊖ c.y) ⊕ b.x ⊗ (c.y ⊖ a.y) ⊕ c.x ⊗ (a.y ⊖ b.y)) in
     let u = circumcenter a b c d in
     let sa = bearing u a in
     let ea = bearing u b in
     let ma = bearing u c in
-    cond (lt (abs d) ten⁻¹²) Degenerate
-    (Is (record {
+    cond (lt (abs d) ten⁻¹²) None
+    (Some (record {
       center = u;
       radius = norm (a.x ⊖ u.x) (a.y ⊖ u.y);
       start = sa;

@@ -1,14 +1,12 @@
 -- 000, `svg_arc_to_center`: "Given start/end points, radii, rotation, and arc selection flags, returns (center, start_angle, end_angle, rx, ry) or None if degenerate." The
 -- steps of SVG 2, in 000's order.
-use Rattle.std.specs.Prelude.{Bool, cond, Float}
+use Rattle.std.specs.Prelude.{Bool, cond, Option, Some, None, Float}
 use Rattle.std.specs.Float.Ieee.{neg}
 use Rattle.laws.specs.Rounded.{◌⊕◌}
 use Rattle.sine.specs.Rule.{sine, cosine}
 use Rattle.curves.specs.declared.Point.{Point}
 use Rattle.curves.specs.declared.Radii.{Radii}
 use Rattle.shapes.specs.declared.Converted.{Converted}
-use Rattle.shapes.specs.declared.Conversion.{Conversion}
-use Rattle.shapes.specs.declared.Conversion.TheVariants.{Is, Degenerate}
 use Rattle.construct.specs.OutOfRange.{identical, positive, straight, lambda, enlarged}
 use Rattle.construct.specs.Svg.{primed, primed_center, turned_back, angle, scaled, start_angle, swept}
 
@@ -32,8 +30,8 @@ about_center p1 p2 given rotation large sweep =
     }
 
 -- None for identical ends, then None for a radius that is too small
-unfoldable pub svg_arc_to_center : Point → Point → Float → Float → Float → Bool → Bool → Conversion
+abbrev pub svg_arc_to_center : Point → Point → Float → Float → Float → Bool → Bool → Option Converted
 svg_arc_to_center p1 p2 rx ry rotation large sweep =
-    cond (identical p1 p2) Degenerate
-    (cond (straight (positive rx ry)) Degenerate
-    (Is (about_center p1 p2 (positive rx ry) rotation large sweep)))
+    cond (identical p1 p2) None
+    (cond (straight (positive rx ry)) None
+    (Some (about_center p1 p2 (positive rx ry) rotation large sweep)))

@@ -18,7 +18,7 @@ use Rattle.curves.specs.declared.Radii.{Radii}
 use Rattle.root.specs.Norm.{norm}
 
 -- F.6.5.1: (x1', y1') is [cos φ, sin φ; -sin φ, cos φ] times ((x1 - x2) / 2, (y1 - y2) / 2).
-unfoldable pub primed : Point → Point → Float → Float → Point
+abbrev pub primed : Point → Point → Float → Float → Point
 primed p1 p2 sin cos =
     let dx = (p1.x ⊖ p2.x) ⊘ two in
     let dy = (p1.y ⊖ p2.y) ⊘ two in
@@ -26,7 +26,7 @@ primed p1 p2 sin cos =
 
 -- F.6.5.2, the root: sqrt((rx^2 ry^2 - rx^2 y1'^2 - ry^2 x1'^2) / (rx^2 y1'^2 + ry^2 x1'^2)). Listed differences: 000 takes a numerator below 0 for 0, and the root for 0 where
 -- the denominator's size is below 1e-30.
-unfoldable pub quotient_root : Point → Radii → Float
+abbrev pub quotient_root : Point → Radii → Float
 quotient_root p r =
     let rx2 = r.a ⊗ r.a in
     let ry2 = r.b ⊗ r.b in
@@ -37,18 +37,18 @@ quotient_root p r =
     cond (lt (abs den) ten⁻³⁰) zero (square_root (num ⊘ den))
 
 -- F.6.5.2, the sign: + where the flags of a large arc and of the sweep differ, - where they are alike.
-unfoldable pub sign : Bool → Bool → Float
+abbrev pub sign : Bool → Bool → Float
 sign large sweep = cond (beq large sweep) (neg one) one
 
 -- F.6.5.2: (cx', cy') is the sign times the root times (rx y1' / ry, -ry x1' / rx).
-unfoldable pub primed_center : Point → Radii → Bool → Bool → Point
+abbrev pub primed_center : Point → Radii → Bool → Bool → Point
 primed_center p r large sweep =
     let sq = quotient_root p r in
     let s = sign large sweep in
     record { x = s ⊗ sq ⊗ r.a ⊗ p.y ⊘ r.b; y = s ⊗ sq ⊗ neg r.b ⊗ p.x ⊘ r.a }
 
 -- F.6.5.3: (cx, cy) is [cos φ, -sin φ; sin φ, cos φ] times (cx', cy'), plus ((x1 + x2) / 2, (y1 + y2) / 2).
-unfoldable pub turned_back : Point → Point → Float → Float → Point → Point
+abbrev pub turned_back : Point → Point → Float → Float → Point → Point
 turned_back p1 p2 sin cos c =
     let mx = (p1.x ⊕ p2.x) ⊘ two in
     let my = (p1.y ⊕ p2.y) ⊘ two in
@@ -56,7 +56,7 @@ turned_back p1 p2 sin cos c =
 
 -- For F.6.5.5-6: the angle of u to v is ± arccos(u·v / (|u| |v|)), its sign that of ux vy - uy vx; where that is 0, 000 takes the +. A listed difference: 000
 -- clamps the cosine to -1..1.
-unfoldable pub angle : Point → Point → Float
+abbrev pub angle : Point → Point → Float
 angle u v =
     let dot = u.x ⊗ v.x ⊕ u.y ⊗ v.y in
     let len = norm u.x u.y ⊗ norm v.x v.y in
@@ -65,7 +65,7 @@ angle u v =
     cond (lt cross zero) (neg a) a
 
 -- F.6.5.5-6, the vectors from the center: ((x1' - cx') / rx, (y1' - cy') / ry).
-unfoldable pub scaled : Point → Point → Radii → Point
+abbrev pub scaled : Point → Point → Radii → Point
 scaled p c r = record { x = (p.x ⊖ c.x) ⊘ r.a; y = (p.y ⊖ c.y) ⊘ r.b }
 
 -- F.6.5.5-6: "compute start angle", the angle of (1, 0) to the vector u of the start. A listed difference: 000 takes the arctangent.
@@ -74,7 +74,7 @@ start_angle u = arctangent u.y u.x
 
 -- 000: "Adjust sweep for sweep flag". Δθ is the angle of the start's vector to the end's: a turn less where the flag is not set and Δθ is above 0, a turn more where it is set and Δθ is
 -- below 0.
-unfoldable pub swept : Float → Bool → Float
+abbrev pub swept : Float → Bool → Float
 swept Δθ sweep =
     cond (not sweep && lt zero Δθ) (Δθ ⊖ tau)
     (cond (sweep && lt Δθ zero) (Δθ ⊕ tau)

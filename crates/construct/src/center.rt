@@ -4,9 +4,10 @@ ghost use Rattle.construct.specs.Conversion.{about_center, svg_arc_to_center};
 
 use crate::svg;
 use curves::{Point, Radii};
-use shapes::{Conversion, Converted};
+use shapes::Converted;
 
 // The steps after the tests, with radii that are not negative.
+#[tactic(auto, unfolding(crate::specs::Conversion::about_center))]
 fn about_center(
     p1: Point,
     p2: Point,
@@ -41,18 +42,18 @@ pub fn svg_arc_to_center(
     rotation: f64,
     large_arc: bool,
     sweep: bool,
-) -> Conversion
+) -> Option<Converted>
     ensures { result ≡ svg_arc_to_center p1 p2 rx ry rotation large_arc sweep }
 {
     if svg::identical(p1, p2) {
-        return Conversion::Degenerate;
+        return None;
     }
     let r = Radii {
         a: scalar::abs(rx),
         b: scalar::abs(ry),
     };
     if svg::straight(r) {
-        return Conversion::Degenerate;
+        return None;
     }
-    Conversion::Is(about_center(p1, p2, r, rotation, large_arc, sweep))
+    Some(about_center(p1, p2, r, rotation, large_arc, sweep))
 }

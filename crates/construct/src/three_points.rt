@@ -3,7 +3,7 @@ ghost use Rattle.std.specs.Prelude.{◌≡◌};
 ghost use Rattle.construct.specs.Circumscribed.{bearing, circumcenter, circumscribed_arc};
 
 use curves::Point;
-use shapes::{Circumscribed, ThreePoint};
+use shapes::Circumscribed;
 
 // The angle at which p is seen from the center.
 fn bearing(center: Point, p: Point) -> f64
@@ -24,18 +24,18 @@ fn circumcenter(a: Point, b: Point, c: Point, d: f64) -> Point
     }
 }
 
-pub fn circumscribed_arc(p1: Point, p2: Point, p3: Point) -> ThreePoint
+pub fn circumscribed_arc(p1: Point, p2: Point, p3: Point) -> Option<Circumscribed>
     ensures { result ≡ circumscribed_arc p1 p2 p3 }
 {
     let d = 2.0 * (p1.x * (p2.y - p3.y) + p2.x * (p3.y - p1.y) + p3.x * (p1.y - p2.y));
     if scalar::abs(d) < 1e-12 {
-        return ThreePoint::Degenerate;
+        return None;
     }
     let u = circumcenter(p1, p2, p3, d);
     let sa = bearing(u, p1);
     let ea = bearing(u, p2);
     let ma = bearing(u, p3);
-    ThreePoint::Is(Circumscribed {
+    Some(Circumscribed {
         center: u,
         radius: root::norm(p1.x - u.x, p1.y - u.y),
         start: sa,

@@ -20,14 +20,12 @@ use Rattle.segments.specs.Segments.{intersect_segments, on_segment}
 use Rattle.crossing.specs.SegmentArc.{intersect_segment_arc, segment_hit, unit_roots}
 use Rattle.crossing.specs.Circles.{intersect_circle_circle, candidates, candidate, half_chord}
 use Rattle.root.specs.Norm.{norm}
-use Rattle.construct.specs.Circumscribed.{circumscribed_arc, circumcenter, bearing}
-use Rattle.construct.specs.TangentCircle.{circle_tangent_through}
 use Rattle.calls_crossings.specs.Pairs.{pair_outcome}
 use Rattle.drawings.specs.Drawing.{found}
 use Rattle.drawings.specs.Table.{drawings}
 
 pub drawings-found : map (λ d. found d.call) drawings ≡ map (λ d. d.gives) drawings
-unfolding found drawings circumscribed_arc circumcenter bearing circle_tangent_through norm flat pair_outcome intersect_segments on_segment
+unfolding found drawings norm flat pair_outcome intersect_segments on_segment
     intersect_segment_arc segment_hit unit_roots intersect_circle_circle candidates candidate half_chord arc_param_in_span norm_tau within arc_radii abs
     clamp square_root root_units digit floor_root nearest_root sine cosine angle.tau angle.units arctangent ratio edge_of edge_size angle_of
     float_of arc_of units_at place_of series_at upper_steps last_step fine_step rough_step rough high size_of row_at row_from plain raised table coefs_at

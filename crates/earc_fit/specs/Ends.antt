@@ -14,20 +14,20 @@ use Rattle.shapes.specs.declared.Fitted.{Fitted}
 use Rattle.conics.specs.declared.axes.Squares.{Squares}
 
 -- sr and cr are the rotation's sine and cosine
-unfoldable pub parametric : Point → Point → Radii → Float → Float → Float
+abbrev pub parametric : Point → Point → Radii → Float → Float → Float
 parametric p center r sr cr =
     let lx = (p.x ⊖ center.x) ⊗ cr ⊕ (p.y ⊖ center.y) ⊗ sr in
     let ly = neg (p.x ⊖ center.x) ⊗ sr ⊕ (p.y ⊖ center.y) ⊗ cr in
     arctangent (ly ⊘ r.b) (lx ⊘ r.a)
 
 -- whether the ellipse at sa runs in the direction t1
-unfoldable pub agrees : Point → Radii → Float → Float → Bool
+abbrev pub agrees : Point → Radii → Float → Float → Bool
 agrees t1 r rot sa =
     let tv = ellipse_tangent r.a r.b rot sa in
     let dot = tv.x ⊗ t1.x ⊕ tv.y ⊗ t1.y in
     lt zero dot
 
-unfoldable pub fitted_arc : Point → Point → Point → Point → Squares → Float → Fitted
+abbrev pub fitted_arc : Point → Point → Point → Point → Squares → Float → Fitted
 fitted_arc p1 t1 p2 center squares rot =
     let r : Radii = record { a = square_root squares.rx_sq; b = square_root squares.ry_sq } in
     let sr = sine rot in

@@ -1,13 +1,12 @@
 -- 001, `fit_earc_tangent`: "Fit an elliptic arc through two points with given tangent directions and bulge. [..] Returns (center, rx, ry, rotation, start_angle, end_angle, ccw)
 -- or None if degenerate." Each of its six `return None` has its own place, in 001's order: the ends alike, no chord line, the target on the chord; then in `conic_arc` not an ellipse,
 -- an axis too flat, no real axis.
-use Rattle.std.specs.Prelude.{cond, Float}
+use Rattle.std.specs.Prelude.{cond, Option, Some, None, Float}
 use Rattle.std.specs.Float.Ieee.{lt, le}
 use Rattle.laws.specs.Literal.{ten⁻¹²}
 use Rattle.laws.specs.Size.{abs}
 use Rattle.curves.specs.declared.Point.{Point}
-use Rattle.shapes.specs.declared.Fit.{Fit}
-use Rattle.shapes.specs.declared.Fit.TheVariants.{Is, Degenerate}
+use Rattle.shapes.specs.declared.Fitted.{Fitted}
 use Rattle.conics.specs.declared.conic.Conic.{Conic}
 use Rattle.root.specs.Norm.{norm}
 use Rattle.conics.specs.Lines.{◌!◌, line_through, normalized, line_value}
@@ -19,19 +18,19 @@ use Rattle.conics.specs.Axes.{determinant, center_of, eigenvalues, either_flat, 
 use Rattle.earc_fit.specs.Ends.{fitted_arc}
 
 -- the arc on the conic q from p1, where it runs along t1, to p2
-unfoldable pub conic_arc : Point → Point → Point → Conic → Fit
+unfoldable pub conic_arc : Point → Point → Point → Conic → Option Fitted
 conic_arc p1 t1 p2 q =
     let det2 = determinant q in
     let center = center_of q det2 in
     let ev = eigenvalues q in
     let squares = radii_squared q center ev in
     let rot = rotation q ev in
-    cond (le det2 ten⁻¹²) Degenerate
-    (cond (either_flat ev) Degenerate
-    (cond (either_unreal squares) Degenerate
-    (Is (fitted_arc p1 t1 p2 center squares rot))))
+    cond (le det2 ten⁻¹²) None
+    (cond (either_flat ev) None
+    (cond (either_unreal squares) None
+    (Some (fitted_arc p1 t1 p2 center squares rot))))
 
-unfoldable pub fit_earc_tangent : Point → Point → Point → Point → Float → Fit
+unfoldable pub fit_earc_tangent : Point → Point → Point → Point → Float → Option Fitted
 fit_earc_tangent p1 t1 p2 t2 bulge =
     let chord = lines.chord p1 p2 in
     let chord_len = norm chord.x chord.y in
@@ -44,7 +43,7 @@ fit_earc_tangent p1 t1 p2 t2 bulge =
     let target_mid = target_mid_of p1 p2 chord chord_len bulge_sign bulge in
     let m_val = line_value m target_mid in
     let lambda = pencil.lambda l1 l2 target_mid m_val in
-    cond (lt chord_len ten⁻¹²) Degenerate
-    (cond (lt m_len ten⁻¹²) Degenerate
-    (cond (lt (abs m_val) ten⁻¹²) Degenerate
+    cond (lt chord_len ten⁻¹²) None
+    (cond (lt m_len ten⁻¹²) None
+    (cond (lt (abs m_val) ten⁻¹²) None
     (conic_arc p1 t1 p2 (conic_matrix l1 l2 m lambda))))

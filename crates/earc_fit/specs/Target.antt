@@ -9,7 +9,7 @@ use Rattle.curves.specs.declared.Point.{Point}
 use Rattle.conics.specs.Lines.{line_value}
 
 -- Of parallel normals 001 says: "both target sides yield the same lambda -- the sign is inert here".
-unfoldable pub bulge_sign_of : Point → Point → Point → Point → List Float → Float
+abbrev pub bulge_sign_of : Point → Point → Point → Point → List Float → Float
 bulge_sign_of p1 t1 t2 chord m =
     let n1 : Point = record { x = neg t1.y; y = t1.x } in
     let n2 : Point = record { x = neg t2.y; y = t2.x } in
@@ -19,7 +19,7 @@ bulge_sign_of p1 t1 t2 chord m =
     let center_side = line_value m center_guess in
     cond (lt ten⁻¹² (abs denom)) (cond (le zero center_side) (neg one) one) one
 
-unfoldable pub target_mid_of : Point → Point → Point → Float → Float → Float → Point
+abbrev pub target_mid_of : Point → Point → Point → Float → Float → Float → Point
 target_mid_of p1 p2 chord chord_len bulge_sign bulge =
     let half_chord = chord_len ⊘ two in
     let chord_mid : Point = record { x = (p1.x ⊕ p2.x) ⊘ two; y = (p1.y ⊕ p2.y) ⊘ two } in

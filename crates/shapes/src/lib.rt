@@ -20,12 +20,6 @@ pub struct Converted {
     pub ry: f64,
 }
 
-#[derive(Clone, Copy)]
-pub enum Conversion {
-    Is(Converted),
-    Degenerate,
-}
-
 // The arc from the first point to the second by way of the third.
 #[derive(Clone, Copy)]
 pub struct Circumscribed {
@@ -37,21 +31,9 @@ pub struct Circumscribed {
 }
 
 #[derive(Clone, Copy)]
-pub enum ThreePoint {
-    Is(Circumscribed),
-    Degenerate,
-}
-
-#[derive(Clone, Copy)]
 pub struct Circle {
     pub center: Point,
     pub radius: f64,
-}
-
-#[derive(Clone, Copy)]
-pub enum TangentCircle {
-    Is(Circle),
-    Degenerate,
 }
 
 #[derive(Clone, Copy)]
@@ -63,11 +45,4 @@ pub struct Fitted {
     pub start: f64,
     pub end: f64,
     pub ccw: bool,
-}
-
-// Degenerate is 001's `None`.
-#[derive(Clone, Copy)]
-pub enum Fit {
-    Is(Fitted),
-    Degenerate,
 }
