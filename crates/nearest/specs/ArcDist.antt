@@ -7,7 +7,7 @@ use Rattle.shapes.specs.declared.Near.{Near}
 use Rattle.nearest.specs.EllipseDist.{point_to_ellipse_dist}
 use Rattle.nearest.specs.CircleDist.{whole_dist, part_dist}
 
-unfoldable pub point_to_arc_dist : Point → Arc → Near
+abbrev pub point_to_arc_dist : Point → Arc → Near
 point_to_arc_dist p a =
     let dx = p.x ⊖ a.center.x in
     let dy = p.y ⊖ a.center.y in

@@ -19,20 +19,20 @@ use Rattle.nearest.specs.Samples.{best_of}
 use Rattle.nearest.specs.Thirds.{thirds}
 
 -- "Outside span: nearer endpoint."
-unfoldable pub end_param : Arc → Point → Float
+abbrev pub end_param : Arc → Point → Float
 end_param arc p =
     let ds = squared_dist p (arc_start_pos arc) in
     let de = squared_dist p (arc_end_pos arc) in
     cond (le ds de) arc.start arc.end
 
 -- `if let Some(t) = .. { return t; }`, and else the end's
-unfoldable pub on_circle : Arc → Point → Float
+abbrev pub on_circle : Arc → Point → Float
 on_circle arc p =
     let theta = arctangent (p.y ⊖ arc.center.y) (p.x ⊖ arc.center.x) in
     unwrap_or (arc_param_in_span arc theta) (end_param arc p)
 
 -- `ea`
-unfoldable pub last_angle : Arc → Float
+abbrev pub last_angle : Arc → Float
 last_angle arc = cond arc.closed (arc.start ⊕ tau) arc.end
 
 -- "Ellipse: sample the span, refine by local search."
@@ -45,5 +45,5 @@ on_ellipse arc p =
     let s = thirds arc p 40 (record { lo = bestT ⊖ cell; hi = bestT ⊕ cell }) in
     clamp (middle s.lo s.hi) (minimum sa ea) (maximum sa ea)
 
-unfoldable pub nearest_arc_param : Arc → Point → Float
+abbrev pub nearest_arc_param : Arc → Point → Float
 nearest_arc_param arc p = cond (not arc.is_ellipse) (on_circle arc p) (on_ellipse arc p)

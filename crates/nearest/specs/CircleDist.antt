@@ -12,17 +12,17 @@ use Rattle.curves.specs.declared.Point.{Point}
 use Rattle.curves.specs.declared.Arc.{Arc}
 use Rattle.arc.specs.ArcPoint.{arc_start_pos, arc_end_pos}
 use Rattle.arc.specs.Span.{norm_tau}
-use Rattle.segments.specs.Project.{distance}
 use Rattle.shapes.specs.declared.Near.{Near}
+use Rattle.nearest.specs.Near.{near}
 
 -- `((dist_to_center - r).abs(), proj)`, d being the distance to the center
-unfoldable pub on_ray : Arc → Float → Float → Float → Near
+abbrev pub on_ray : Arc → Float → Float → Float → Near
 on_ray a dx dy d =
     let r = a.radius in
     record { dist = abs (d ⊖ r); pos = record { x = a.center.x ⊕ r ⊗ dx ⊘ d; y = a.center.y ⊕ r ⊗ dy ⊘ d } }
 
 -- "Full circle: nearest point is projection onto circle"
-unfoldable pub whole_dist : Arc → Float → Float → Near
+abbrev pub whole_dist : Arc → Float → Float → Near
 whole_dist a dx dy =
     let r = a.radius in
     let d = norm dx dy in
@@ -30,7 +30,7 @@ whole_dist a dx dy =
     (on_ray a dx dy d)
 
 -- `a_norm <= span`
-unfoldable pub in_range : Arc → Float → Bool
+abbrev pub in_range : Arc → Float → Bool
 in_range a angle =
     let sa = a.start in
     let ea = a.end in
@@ -38,16 +38,14 @@ in_range a angle =
     (le (norm_tau (sa ⊖ angle)) (norm_tau (sa ⊖ ea)))
 
 -- "Outside arc range: nearest is one of the endpoints"
-unfoldable pub end_dist : Point → Arc → Near
+abbrev pub end_dist : Point → Arc → Near
 end_dist p a =
-    let sp = arc_start_pos a in
-    let ep = arc_end_pos a in
-    let ds = distance p sp in
-    let de = distance p ep in
-    cond (lt ds de) (record { dist = ds; pos = sp }) (record { dist = de; pos = ep })
+    let start = near p (arc_start_pos a) in
+    let end = near p (arc_end_pos a) in
+    cond (lt start.dist end.dist) start end
 
 -- "Partial arc: check if angle falls within arc range"
-unfoldable pub part_dist : Point → Arc → Float → Float → Near
+abbrev pub part_dist : Point → Arc → Float → Float → Near
 part_dist p a dx dy =
     let r = a.radius in
     let d = norm dx dy in

@@ -1,6 +1,7 @@
 -- What the contracts of the crate cite.
 pub mod Turn
 pub mod Squared
+pub mod Near
 pub mod Samples
 pub mod Newton
 pub mod EllipseDist

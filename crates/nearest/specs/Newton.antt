@@ -15,11 +15,11 @@ abbrev pub dt : Float
 dt = ten⁻⁶
 
 -- `f`
-unfoldable pub slope : Point → Point → Point → Point → Float
+abbrev pub slope : Point → Point → Point → Point → Float
 slope p q qp qm = (p.x ⊖ q.x) ⊗ (qp.x ⊖ qm.x) ⊘ (two ⊗ dt) ⊕ (p.y ⊖ q.y) ⊗ (qp.y ⊖ qm.y) ⊘ (two ⊗ dt)
 
 -- `df`
-unfoldable pub bend : Point → Point → Point → Point → Float
+abbrev pub bend : Point → Point → Point → Point → Float
 bend p q qp qm =
     neg (squared_dist qp qm) ⊘ (four ⊗ dt ⊗ dt)
     ⊕ (p.x ⊖ q.x) ⊗ (qp.x ⊖ two ⊗ q.x ⊕ qm.x) ⊘ (dt ⊗ dt)

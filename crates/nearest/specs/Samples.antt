@@ -11,10 +11,10 @@ use Rattle.arc.specs.ArcPoint.{arc_point_at}
 use Rattle.nearest.specs.declared.samples.Best.{Best}
 use Rattle.nearest.specs.Squared.{squared_dist}
 
-unfoldable pub sample : Arc → Float → ℕ → ℕ → Float
+abbrev pub sample : Arc → Float → ℕ → ℕ → Float
 sample a span n i = a.start ⊕ span ⊗ (of_int binary64 (pos i) ⊘ of_int binary64 (pos n))
 
-unfoldable pub closer : Arc → Point → Float → Best → Best
+abbrev pub closer : Arc → Point → Float → Best → Best
 closer a p t best =
     let d = squared_dist p (arc_point_at a t) in
     cond (lt d best.d) (record { t = t; d = d }) best

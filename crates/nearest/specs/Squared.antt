@@ -3,5 +3,5 @@ use Rattle.std.specs.Prelude.{Float}
 use Rattle.laws.specs.Rounded.{◌⊕◌, ◌⊖◌, square}
 use Rattle.curves.specs.declared.Point.{Point}
 
-unfoldable pub squared_dist : Point → Point → Float
+abbrev pub squared_dist : Point → Point → Float
 squared_dist p q = square (p.x ⊖ q.x) ⊕ square (p.y ⊖ q.y)

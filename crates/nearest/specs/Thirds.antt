@@ -1,15 +1,20 @@
 -- 000, `nearest_arc_param`: "Golden-section-style shrink around the best sample", one turn and so many turns.
-use Rattle.std.specs.Prelude.{ℕ, zero as nought, suc, cond}
+use Rattle.std.specs.Prelude.{ℕ, zero as nought, suc, cond, Float}
 use Rattle.std.specs.Float.Ieee.{lt}
 use Rattle.laws.specs.Rounded.{◌⊕◌, ◌⊖◌, ◌⊘◌}
 use Rattle.laws.specs.Literal.{three}
+use Rattle.scalar.specs.Extremes.{minimum, maximum}
 use Rattle.curves.specs.declared.Point.{Point}
 use Rattle.curves.specs.declared.Arc.{Arc}
 use Rattle.arc.specs.ArcPoint.{arc_point_at}
 use Rattle.nearest.specs.declared.thirds.Stretch.{Stretch}
 use Rattle.nearest.specs.Squared.{squared_dist}
 
-unfoldable pub shrunk : Arc → Point → Stretch → Stretch
+-- the stretch between two angles, in whichever order they come
+abbrev pub between : Float → Float → Stretch
+between s e = record { lo = minimum s e; hi = maximum s e }
+
+abbrev pub shrunk : Arc → Point → Stretch → Stretch
 shrunk a p s =
     let m1 = s.lo ⊕ (s.hi ⊖ s.lo) ⊘ three in
     let m2 = s.hi ⊖ (s.hi ⊖ s.lo) ⊘ three in

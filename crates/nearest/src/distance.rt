@@ -12,10 +12,13 @@ pub fn point_to_arc_dist(p: Point, a: Arc) -> Near
     if a.is_ellipse {
         return ellipse::point_to_ellipse_dist(p, a);
     }
-    let dx = p.x - a.center.x;
-    let dy = p.y - a.center.y;
+    let off = Point {
+        x: p.x - a.center.x,
+        y: p.y - a.center.y,
+    };
     if a.closed {
-        return circle::whole_dist(a, dx, dy);
+        circle::whole_dist(a, off)
+    } else {
+        circle::part_dist(p, a, off)
     }
-    circle::part_dist(p, a, dx, dy)
 }

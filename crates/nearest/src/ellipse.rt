@@ -2,25 +2,23 @@
 ghost use Rattle.std.specs.Prelude.{◌≡◌};
 ghost use Rattle.nearest.specs.EllipseDist.{nearest_of, span, point_to_ellipse_dist};
 
-use crate::{newton, points, samples};
+use crate::search::Search;
+use crate::thirds::Stretch;
 use curves::{Arc, Point};
 use scalar::TAU;
 use shapes::Near;
 
 // An end is taken only where it is strictly nearer.
-fn nearest_of(p: Point, sp: Point, ep: Point, nearest: Point) -> Near
-    ensures { result ≡ nearest_of p sp ep nearest }
+fn nearest_of(start: Near, end: Near, found: Near) -> Near
+    ensures { result ≡ nearest_of start end found }
 {
-    let dist = segments::distance(p, nearest);
-    let ds = segments::distance(p, sp);
-    let de = segments::distance(p, ep);
-    if (ds < dist) & (ds < de) {
-        return Near { dist: ds, pos: sp };
+    if (start.dist < found.dist) & (start.dist < end.dist) {
+        start
+    } else if end.dist < found.dist {
+        end
+    } else {
+        found
     }
-    if de < dist {
-        return Near { dist: de, pos: ep };
-    }
-    Near { dist, pos: nearest }
 }
 
 fn span(a: Arc) -> f64
@@ -29,20 +27,13 @@ fn span(a: Arc) -> f64
     if a.closed { TAU } else { a.end - a.start }
 }
 
+#[tactic(auto, unfolding(crate::specs::EllipseDist::point_to_ellipse_dist))]
 pub fn point_to_ellipse_dist(p: Point, a: Arc) -> Near
     ensures { result ≡ point_to_ellipse_dist p a }
 {
-    let sa = a.start;
+    let search = Search::new(a, p);
     let span = span(a);
-    let t_min = scalar::min(sa, sa + span);
-    let t_max = scalar::max(sa, sa + span);
-    let turn = sine::sin_cos(a.rotation);
-    let best = samples::best_of(a, turn, p, span, 64);
-    let t = newton::newton(a, turn, p, t_min, t_max, best.t);
-    nearest_of(
-        p,
-        points::point(a, turn, sa),
-        points::point(a, turn, a.end),
-        points::point(a, turn, t),
-    )
+    let within = Stretch::between(a.start, a.start + span);
+    let t = search.newton(within, search.best_of(span, 64).t);
+    nearest_of(search.near(a.start), search.near(a.end), search.near(t))
 }

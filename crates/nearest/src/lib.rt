@@ -6,8 +6,8 @@ mod distance;
 mod ellipse;
 mod newton;
 mod param;
-mod points;
 mod samples;
+mod search;
 mod thirds;
 
 pub use distance::point_to_arc_dist;

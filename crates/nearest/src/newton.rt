@@ -1,11 +1,11 @@
 // Newton's steps to the angle of least distance.
 ghost use Rattle.std.specs.Prelude.{◌≡◌};
-ghost use Rattle.nearest.specs.Turn.{Turn};
 ghost use Rattle.nearest.specs.Newton.{slope, bend, slopes_at, newton};
 
-use crate::points;
-use curves::{Arc, Point};
-use sine::SinCos;
+use crate::search;
+use crate::search::Search;
+use crate::thirds::Stretch;
+use curves::Point;
 
 // The step of the difference quotients.
 const DT: f64 = 1e-6;
@@ -28,36 +28,38 @@ fn slope(p: Point, q: Point, qp: Point, qm: Point) -> f64
 fn bend(p: Point, q: Point, qp: Point, qm: Point) -> f64
     ensures { result ≡ bend p q qp qm }
 {
-    -points::squared_dist(qp, qm) / (4.0 * DT * DT)
+    -search::squared_dist(qp, qm) / (4.0 * DT * DT)
         + (p.x - q.x) * (qp.x - 2.0 * q.x + qm.x) / (DT * DT)
         + (p.y - q.y) * (qp.y - 2.0 * q.y + qm.y) / (DT * DT)
 }
 
-fn slopes_at(a: Arc, turn: SinCos, p: Point, t: f64) -> Slopes
-    requires { Turn a turn }
-    ensures { result ≡ slopes_at a p t }
-{
-    let q = points::point(a, turn, t);
-    let qp = points::point(a, turn, t + DT);
-    let qm = points::point(a, turn, t - DT);
-    Slopes {
-        f: slope(p, q, qp, qm),
-        df: bend(p, q, qp, qm),
-    }
-}
-
-// At most 8 steps, each kept between t_min and t_max.
-pub fn newton(a: Arc, turn: SinCos, p: Point, t_min: f64, t_max: f64, from: f64) -> f64
-    requires { Turn a turn }
-    ensures { result ≡ newton a p t_min t_max 8 from }
-{
-    let mut t = from;
-    for _ in 0..8u32 {
-        let s = slopes_at(a, turn, p, t);
-        if scalar::abs(s.df) < 1e-20 {
-            break;
+impl Search {
+    #[tactic(auto, unfolding(crate::specs::Newton::slopes_at))]
+    fn slopes_at(&self, t: f64) -> Slopes
+        ensures { result ≡ slopes_at self.now.a self.now.p t }
+    {
+        let q = self.at(t);
+        let qp = self.at(t + DT);
+        let qm = self.at(t - DT);
+        Slopes {
+            f: slope(self.p, q, qp, qm),
+            df: bend(self.p, q, qp, qm),
         }
-        t = scalar::clamp(t - s.f / s.df, t_min, t_max);
     }
-    t
+
+    // At most 8 steps, each kept in the stretch.
+    #[tactic(auto, unfolding(crate::specs::Newton::newton))]
+    pub fn newton(&self, within: Stretch, from: f64) -> f64
+        ensures { result ≡ newton self.now.a self.now.p within.lo within.hi 8 from }
+    {
+        let mut t = from;
+        for _ in 0..8u32 {
+            let s = self.slopes_at(t);
+            if scalar::abs(s.df) < 1e-20 {
+                break;
+            }
+            t = within.clamp(t - s.f / s.df);
+        }
+        t
+    }
 }

@@ -2,8 +2,8 @@
 ghost use Rattle.std.specs.Prelude.{◌≡◌};
 ghost use Rattle.nearest.specs.ArcParam.{end_param, on_circle, last_angle, on_ellipse, nearest_arc_param};
 
+use crate::search::Search;
 use crate::thirds::Stretch;
-use crate::{points, samples, thirds};
 use curves::{Arc, Point};
 use scalar::TAU;
 
@@ -11,9 +11,9 @@ use scalar::TAU;
 fn end_param(arc: Arc, p: Point) -> f64
     ensures { result ≡ end_param arc p }
 {
-    let turn = sine::sin_cos(arc.rotation);
-    let ds = points::squared_dist(p, points::point(arc, turn, arc.start));
-    let de = points::squared_dist(p, points::point(arc, turn, arc.end));
+    let search = Search::new(arc, p);
+    let ds = search.squared_dist(arc.start);
+    let de = search.squared_dist(arc.end);
     if ds <= de { arc.start } else { arc.end }
 }
 
@@ -31,36 +31,29 @@ fn last_angle(arc: Arc) -> f64
     if arc.closed { arc.start + TAU } else { arc.end }
 }
 
+#[tactic(auto, unfolding(crate::specs::ArcParam::on_ellipse))]
 fn on_ellipse(arc: Arc, p: Point) -> f64
     ensures { result ≡ on_ellipse arc p }
 {
     let sa = arc.start;
     let ea = last_angle(arc);
-    let n: u32 = 128;
-    let turn = sine::sin_cos(arc.rotation);
-    let best = samples::best_of(arc, turn, p, ea - sa, n);
+    let n = 128;
+    let search = Search::new(arc, p);
+    let best = search.best_of(ea - sa, n);
     let cell = scalar::abs(ea - sa) / (n as f64);
-    let s = thirds::thirds(
-        arc,
-        turn,
-        p,
-        Stretch {
-            lo: best.t - cell,
-            hi: best.t + cell,
-        },
-    );
-    scalar::clamp(
-        0.5 * (s.lo + s.hi),
-        scalar::min(sa, ea),
-        scalar::max(sa, ea),
-    )
+    let s = search.thirds(Stretch {
+        lo: best.t - cell,
+        hi: best.t + cell,
+    });
+    Stretch::between(sa, ea).clamp(0.5 * (s.lo + s.hi))
 }
 
 pub fn nearest_arc_param(arc: Arc, p: Point) -> f64
     ensures { result ≡ nearest_arc_param arc p }
 {
-    if !arc.is_ellipse {
-        return on_circle(arc, p);
+    if arc.is_ellipse {
+        on_ellipse(arc, p)
+    } else {
+        on_circle(arc, p)
     }
-    on_ellipse(arc, p)
 }

@@ -1,14 +1,8 @@
 // The nearest of the points at equal steps of the angle.
-ghost use Rattle.std.specs.Prelude.{◌≡◌, ◌≤◌};
-ghost use Rattle.nearest.specs.Turn.{Turn};
+ghost use Rattle.std.specs.Prelude.{◌≡◌};
 ghost use Rattle.nearest.specs.Samples.{sample, closer, best_of};
 
-use crate::points;
-use curves::{Arc, Point};
-use sine::SinCos;
-
-// Rust's f64::MAX.
-const LARGEST: f64 = 1.7976931348623157e308;
+use crate::search::Search;
 
 // The best angle so far and its point's squared distance.
 #[derive(Clone, Copy)]
@@ -17,34 +11,32 @@ pub struct Best {
     pub d: f64,
 }
 
-fn sample(a: Arc, span: f64, n: u32, i: u32) -> f64
-    ensures { result ≡ sample a span n i }
-{
-    a.start + span * ((i as f64) / (n as f64))
-}
-
-fn closer(a: Arc, turn: SinCos, p: Point, t: f64, best: Best) -> Best
-    requires { Turn a turn }
-    ensures { result ≡ closer a p t best }
-{
-    let d = points::squared_dist(p, points::point(a, turn, t));
-    if d < best.d {
-        return Best { t, d };
+impl Search {
+    fn sample(&self, span: f64, n: u8, i: u32) -> f64
+        ensures { result ≡ sample self.now.a span n i }
+    {
+        self.a.start + span * ((i as f64) / (n as f64))
     }
-    best
-}
 
-// The best of the n + 1 samples of a span.
-pub fn best_of(a: Arc, turn: SinCos, p: Point, span: f64, n: u32) -> Best
-    requires { Turn a turn × (n ≤ 128) }
-    ensures { result ≡ best_of a p span n }
-{
-    let mut best = Best {
-        t: a.start,
-        d: LARGEST,
-    };
-    for i in 0..n + 1 {
-        best = closer(a, turn, p, sample(a, span, n, i), best);
+    fn closer(&self, t: f64, best: Best) -> Best
+        ensures { result ≡ closer self.now.a self.now.p t best }
+    {
+        let d = self.squared_dist(t);
+        if d < best.d { Best { t, d } } else { best }
     }
-    best
+
+    // The best of the n + 1 samples of a span.
+    #[tactic(auto, unfolding(crate::specs::Samples::sampled))]
+    pub fn best_of(&self, span: f64, n: u8) -> Best
+        ensures { result ≡ best_of self.now.a self.now.p span n }
+    {
+        let mut best = Best {
+            t: self.a.start,
+            d: f64::MAX,
+        };
+        for i in 0..u32::from(n) + 1 {
+            best = self.closer(self.sample(span, n, i), best);
+        }
+        best
+    }
 }

@@ -1,11 +1,9 @@
 // The shrinking of a stretch of angles around the least distance.
 ghost use Rattle.std.specs.Prelude.{◌≡◌};
-ghost use Rattle.nearest.specs.Turn.{Turn};
-ghost use Rattle.nearest.specs.Thirds.{shrunk, thirds};
+ghost use Rattle.scalar.specs.Clamp.{clamp};
+ghost use Rattle.nearest.specs.Thirds.{between, shrunk, thirds};
 
-use crate::points;
-use curves::{Arc, Point};
-use sine::SinCos;
+use crate::search::Search;
 
 #[derive(Clone, Copy)]
 pub struct Stretch {
@@ -13,28 +11,45 @@ pub struct Stretch {
     pub hi: f64,
 }
 
-// The outer third beside the farther of the two inner points is dropped.
-fn shrink(a: Arc, turn: SinCos, p: Point, s: Stretch) -> Stretch
-    requires { Turn a turn }
-    ensures { result ≡ shrunk a p s }
-{
-    let m1 = s.lo + (s.hi - s.lo) / 3.0;
-    let m2 = s.hi - (s.hi - s.lo) / 3.0;
-    let d1 = points::squared_dist(p, points::point(a, turn, m1));
-    let d2 = points::squared_dist(p, points::point(a, turn, m2));
-    if d1 < d2 {
-        return Stretch { lo: s.lo, hi: m2 };
+impl Stretch {
+    pub fn between(s: f64, e: f64) -> Self
+        ensures { result ≡ between s e }
+    {
+        Stretch {
+            lo: scalar::min(s, e),
+            hi: scalar::max(s, e),
+        }
     }
-    Stretch { lo: m1, hi: s.hi }
+
+    pub fn clamp(self, t: f64) -> f64
+        ensures { result ≡ clamp t self.lo self.hi }
+    {
+        scalar::clamp(t, self.lo, self.hi)
+    }
 }
 
-pub fn thirds(a: Arc, turn: SinCos, p: Point, from: Stretch) -> Stretch
-    requires { Turn a turn }
-    ensures { result ≡ thirds a p 40 from }
-{
-    let mut s = from;
-    for _ in 0..40u32 {
-        s = shrink(a, turn, p, s);
+impl Search {
+    // The outer third beside the farther of the two inner points is dropped.
+    fn shrink(&self, s: Stretch) -> Stretch
+        ensures { result ≡ shrunk self.now.a self.now.p s }
+    {
+        let m1 = s.lo + (s.hi - s.lo) / 3.0;
+        let m2 = s.hi - (s.hi - s.lo) / 3.0;
+        if self.squared_dist(m1) < self.squared_dist(m2) {
+            Stretch { hi: m2, ..s }
+        } else {
+            Stretch { lo: m1, ..s }
+        }
     }
-    s
+
+    #[tactic(auto, unfolding(crate::specs::Thirds::thirds))]
+    pub fn thirds(&self, from: Stretch) -> Stretch
+        ensures { result ≡ thirds self.now.a self.now.p 40 from }
+    {
+        let mut s = from;
+        for _ in 0..40u32 {
+            s = self.shrink(s);
+        }
+        s
+    }
 }
