@@ -1,6 +1,6 @@
 -- 001: "Extract ellipse parameters from conic matrix". "Center: solve [A, B/2; B/2, C] * [cx; cy] = -[D/2; E/2]". "Eigenvalues of [[A, B], [B, C]] give 1/rx^2 and 1/ry^2 (up to
 -- scale)". "Rotation: eigenvector of [[A, B], [B, C]] for ev1".
-use Rattle.std.specs.Prelude.{Bool, cond, ◌||◌, Float}
+use Rattle.std.specs.Prelude.{Bool, cond, ◌||◌, Option, Some, None, Float}
 use Rattle.std.specs.Float.Ieee.{neg, lt, le}
 use Rattle.laws.specs.Rounded.{◌⊕◌, ◌⊖◌, ◌⊗◌, ◌⊘◌}
 use Rattle.laws.specs.Literal.{zero, two, four, ten⁻¹²}
@@ -19,6 +19,10 @@ determinant q = q.a ⊗ q.c ⊖ q.b ⊗ q.b
 abbrev pub center_of : Conic → Float → Point
 center_of q det2 = record { x = (q.b ⊗ q.e ⊖ q.c ⊗ q.d) ⊘ det2; y = (q.b ⊗ q.d ⊖ q.a ⊗ q.e) ⊘ det2 }
 
+-- None for what is no ellipse
+abbrev pub center : Conic → Option Point
+center q = cond (le (determinant q) ten⁻¹²) None (Some (center_of q (determinant q)))
+
 abbrev pub eigenvalues : Conic → Eigen
 eigenvalues q =
     let trace = q.a ⊕ q.c in
@@ -28,6 +32,10 @@ eigenvalues q =
 abbrev pub either_flat : Eigen → Bool
 either_flat ev = lt (abs ev.ev1) ten⁻¹² || lt (abs ev.ev2) ten⁻¹²
 
+-- None where an axis is too flat
+abbrev pub axis_eigenvalues : Conic → Option Eigen
+axis_eigenvalues q = cond (either_flat (eigenvalues q)) None (Some (eigenvalues q))
+
 -- "For canonical form: ev1 * x'^2 + ev2 * y'^2 + f' = 0 => x'^2 / (-f'/ev1) + y'^2 / (-f'/ev2) = 1"
 abbrev pub radii_squared : Conic → Point → Eigen → Squares
 radii_squared q center ev =
@@ -36,6 +44,10 @@ radii_squared q center ev =
 
 abbrev pub either_unreal : Squares → Bool
 either_unreal s = le s.rx_sq zero || le s.ry_sq zero
+
+-- None where an axis is not real
+abbrev pub axis_squares : Conic → Point → Eigen → Option Squares
+axis_squares q center ev = cond (either_unreal (radii_squared q center ev)) None (Some (radii_squared q center ev))
 
 abbrev pub rotation : Conic → Eigen → Float
 rotation q ev =

@@ -1,6 +1,6 @@
 // The center, the axes and the rotation of a conic.
 ghost use Rattle.std.specs.Prelude.{◌≡◌};
-ghost use Rattle.conics.specs.Axes.{determinant, center_of, eigenvalues, either_flat, radii_squared, either_unreal, rotation};
+ghost use Rattle.conics.specs.Axes.{center, axis_eigenvalues, axis_squares, rotation};
 
 use crate::conic::Conic;
 use curves::Point;
@@ -17,67 +17,58 @@ pub struct Squares {
     pub ry_sq: f64,
 }
 
-// Above 0 for an ellipse.
-pub fn determinant(q: Conic) -> f64
-    ensures { result ≡ determinant q }
-{
-    q.a * q.c - q.b * q.b
-}
-
-pub fn center(q: Conic, det2: f64) -> Point
-    ensures { result ≡ center_of q det2 }
-{
-    Point {
-        x: (q.b * q.e - q.c * q.d) / det2,
-        y: (q.b * q.d - q.a * q.e) / det2,
+impl Conic {
+    // None for what is no ellipse.
+    pub fn center(self) -> Option<Point>
+        ensures { result ≡ center self }
+    {
+        let det2 = self.a * self.c - self.b * self.b;
+        if det2 <= 1e-12 {
+            return None;
+        }
+        Some(Point {
+            x: (self.b * self.e - self.c * self.d) / det2,
+            y: (self.b * self.d - self.a * self.e) / det2,
+        })
     }
-}
 
-pub fn eigenvalues(q: Conic) -> Eigen
-    ensures { result ≡ eigenvalues q }
-{
-    let trace = q.a + q.c;
-    let disc = root::sqrt((q.a - q.c) * (q.a - q.c) + 4.0 * q.b * q.b);
-    Eigen {
-        ev1: (trace + disc) / 2.0,
-        ev2: (trace - disc) / 2.0,
+    // None where either axis is too flat.
+    pub fn eigenvalues(self) -> Option<Eigen>
+        ensures { result ≡ axis_eigenvalues self }
+    {
+        let trace = self.a + self.c;
+        let disc = root::sqrt((self.a - self.c) * (self.a - self.c) + 4.0 * self.b * self.b);
+        let ev1 = (trace + disc) / 2.0;
+        let ev2 = (trace - disc) / 2.0;
+        if scalar::abs(ev1) < 1e-12 || scalar::abs(ev2) < 1e-12 {
+            return None;
+        }
+        Some(Eigen { ev1, ev2 })
     }
-}
 
-pub fn either_flat(ev: Eigen) -> bool
-    ensures { result ≡ either_flat ev }
-{
-    let first = scalar::abs(ev.ev1);
-    let second = scalar::abs(ev.ev2);
-    first < 1e-12 || second < 1e-12
-}
-
-// About the center the conic is ev1 x^2 + ev2 y^2 + f' = 0.
-pub fn radii_squared(q: Conic, center: Point, ev: Eigen) -> Squares
-    ensures { result ≡ radii_squared q center ev }
-{
-    let f_prime = q.f + q.d * center.x + q.e * center.y;
-    Squares {
-        rx_sq: -f_prime / ev.ev1,
-        ry_sq: -f_prime / ev.ev2,
+    // About the center the conic is ev1 x^2 + ev2 y^2 + f' = 0. None where either axis is not real.
+    pub fn radii_squared(self, center: Point, ev: Eigen) -> Option<Squares>
+        ensures { result ≡ axis_squares self center ev }
+    {
+        let f_prime = self.f + self.d * center.x + self.e * center.y;
+        let rx_sq = -f_prime / ev.ev1;
+        let ry_sq = -f_prime / ev.ev2;
+        if rx_sq <= 0.0 || ry_sq <= 0.0 {
+            return None;
+        }
+        Some(Squares { rx_sq, ry_sq })
     }
-}
 
-pub fn either_unreal(s: Squares) -> bool
-    ensures { result ≡ either_unreal s }
-{
-    s.rx_sq <= 0.0 || s.ry_sq <= 0.0
-}
-
-// The direction of the eigenvector of ev1. Where b vanishes 001 gives the axes in the other order.
-pub fn rotation(q: Conic, ev: Eigen) -> f64
-    ensures { result ≡ rotation q ev }
-{
-    if scalar::abs(q.b) > 1e-12 {
-        return arctan::atan2(ev.ev1 - q.a, q.b);
+    // The direction of the eigenvector of ev1. Where b vanishes 001 gives the axes in the other order.
+    pub fn rotation(self, ev: Eigen) -> f64
+        ensures { result ≡ rotation self ev }
+    {
+        if scalar::abs(self.b) > 1e-12 {
+            arctan::atan2(ev.ev1 - self.a, self.b)
+        } else if self.a <= self.c {
+            0.0
+        } else {
+            scalar::FRAC_PI_2
+        }
     }
-    if q.a <= q.c {
-        return 0.0;
-    }
-    scalar::FRAC_PI_2
 }

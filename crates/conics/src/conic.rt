@@ -1,8 +1,8 @@
 // The conic of the pencil that the target lies on, as its symmetric matrix.
-ghost use Rattle.std.specs.Prelude.{◌≡◌, ◌<◌};
-ghost use Rattle.conics.specs.Conic.{lambda, entry, conic_matrix};
+ghost use Rattle.std.specs.Prelude.{◌≡◌};
+ghost use Rattle.conics.specs.Conic.{lambda, conic_matrix};
 
-use crate::lines;
+use crate::lines::Line;
 use curves::Point;
 
 // Entries 00, 01, 11, 02, 12, 22. The other three are never read.
@@ -16,30 +16,57 @@ pub struct Conic {
     pub f: f64,
 }
 
-// The conic of the pencil goes through the target point mid, where m has the value m_val.
-pub fn lambda(l1: [f64; 3], l2: [f64; 3], mid: Point, m_val: f64) -> f64
-    ensures { result ≡ lambda l1 l2 mid m_val }
-{
-    -(lines::line_value(l1, mid) * lines::line_value(l2, mid)) / (m_val * m_val)
+// The a, the b or the c of each line of a pencil.
+#[derive(Clone, Copy)]
+pub struct Column {
+    pub l1: f64,
+    pub l2: f64,
+    pub m: f64,
 }
 
-fn entry(l1: [f64; 3], l2: [f64; 3], m: [f64; 3], lambda: f64, i: usize, j: usize) -> f64
-    requires i_bound { i < 3 }
-    requires j_bound { j < 3 }
-    ensures { result ≡ entry l1 l2 m lambda i j }
-{
-    (l1[i] * l2[j] + l2[i] * l1[j]) / 2.0 + lambda * m[i] * m[j]
+// The conics that touch l1 and l2 where m meets them.
+#[derive(Clone, Copy)]
+pub struct Pencil {
+    pub l1: Line,
+    pub l2: Line,
+    pub m: Line,
 }
 
-pub fn conic_matrix(l1: [f64; 3], l2: [f64; 3], m: [f64; 3], lambda: f64) -> Conic
-    ensures { result ≡ conic_matrix l1 l2 m lambda }
-{
-    Conic {
-        a: entry(l1, l2, m, lambda, 0, 0),
-        b: entry(l1, l2, m, lambda, 0, 1),
-        c: entry(l1, l2, m, lambda, 1, 1),
-        d: entry(l1, l2, m, lambda, 0, 2),
-        e: entry(l1, l2, m, lambda, 1, 2),
-        f: entry(l1, l2, m, lambda, 2, 2),
+impl Pencil {
+    // Its conic goes through the target point mid, where m has the value m_val.
+    pub fn lambda(self, mid: Point, m_val: f64) -> f64
+        ensures { result ≡ lambda self.l1 self.l2 mid m_val }
+    {
+        -(self.l1.value_at(mid) * self.l2.value_at(mid)) / (m_val * m_val)
+    }
+
+    pub fn conic(self, lambda: f64) -> Conic
+        ensures { result ≡ conic_matrix self.l1 self.l2 self.m lambda }
+    {
+        let Pencil { l1, l2, m } = self;
+        let a = Column {
+            l1: l1.a,
+            l2: l2.a,
+            m: m.a,
+        };
+        let b = Column {
+            l1: l1.b,
+            l2: l2.b,
+            m: m.b,
+        };
+        let c = Column {
+            l1: l1.c,
+            l2: l2.c,
+            m: m.c,
+        };
+        let entry = |i: Column, j: Column| (i.l1 * j.l2 + i.l2 * j.l1) / 2.0 + lambda * i.m * j.m;
+        Conic {
+            a: entry(a, a),
+            b: entry(a, b),
+            c: entry(b, b),
+            d: entry(a, c),
+            e: entry(b, c),
+            f: entry(c, c),
+        }
     }
 }

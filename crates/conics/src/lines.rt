@@ -1,33 +1,47 @@
-// Lines as [a, b, c], those of ax + by + c = 0.
+// Lines.
 ghost use Rattle.std.specs.Prelude.{◌≡◌};
-ghost use Rattle.conics.specs.Lines.{chord, line_through, normalized, line_value};
+ghost use Rattle.conics.specs.Lines.{line_through, unit_line, line_value};
 
 use curves::Point;
 
-pub fn chord(p1: Point, p2: Point) -> Point
-    ensures { result ≡ chord p1 p2 }
-{
-    Point {
-        x: p2.x - p1.x,
-        y: p2.y - p1.y,
+// Where ax + by + c is 0.
+#[derive(Clone, Copy)]
+pub struct Line {
+    pub a: f64,
+    pub b: f64,
+    pub c: f64,
+}
+
+impl Line {
+    // The line through p in the direction t.
+    pub fn through(p: Point, t: Point) -> Self
+        ensures { result ≡ line_through p t }
+    {
+        Line {
+            a: t.y,
+            b: -t.x,
+            c: -(t.y * p.x - t.x * p.y),
+        }
     }
-}
 
-// The line through p in the direction t.
-pub fn line_through(p: Point, t: Point) -> [f64; 3]
-    ensures { result ≡ line_through p t }
-{
-    [t.y, -t.x, -(t.y * p.x - t.x * p.y)]
-}
+    // None where a and b are too small to be a direction.
+    pub fn normalized(self) -> Option<Self>
+        ensures { result ≡ unit_line self }
+    {
+        let len = root::norm(self.a, self.b);
+        if len < 1e-12 {
+            return None;
+        }
+        Some(Line {
+            a: self.a / len,
+            b: self.b / len,
+            c: self.c / len,
+        })
+    }
 
-pub fn normalized(m: [f64; 3], m_len: f64) -> [f64; 3]
-    ensures { result ≡ normalized m m_len }
-{
-    [m[0] / m_len, m[1] / m_len, m[2] / m_len]
-}
-
-pub fn line_value(l: [f64; 3], p: Point) -> f64
-    ensures { result ≡ line_value l p }
-{
-    l[0] * p.x + l[1] * p.y + l[2]
+    pub fn value_at(self, p: Point) -> f64
+        ensures { result ≡ line_value self p }
+    {
+        self.a * p.x + self.b * p.y + self.c
+    }
 }

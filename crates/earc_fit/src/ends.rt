@@ -1,11 +1,38 @@
-// The arc of the ellipse: its two angles and its direction.
+// The arc of the ellipse: its ends, their two angles and its direction.
 ghost use Rattle.std.specs.Prelude.{◌≡◌};
+ghost use Rattle.conics.specs.Lines.{line_through};
+ghost use Rattle.earc_fit.specs.Target.{normal};
 ghost use Rattle.earc_fit.specs.Ends.{parametric, agrees, fitted_arc};
 
 use conics::axes::Squares;
+use conics::lines::Line;
 use curves::{Point, Radii};
 use shapes::Fitted;
 use sine::SinCos;
+
+// A point and the direction in which the arc runs there.
+#[derive(Clone, Copy)]
+pub struct End {
+    pub p: Point,
+    pub t: Point,
+}
+
+impl End {
+    pub fn tangent(self) -> Line
+        ensures { result ≡ line_through self.p self.t }
+    {
+        Line::through(self.p, self.t)
+    }
+
+    pub fn normal(self) -> Point
+        ensures { result ≡ normal self.t }
+    {
+        Point {
+            x: -self.t.y,
+            y: self.t.x,
+        }
+    }
+}
 
 fn parametric(p: Point, center: Point, r: Radii, rot: SinCos) -> f64
     ensures { result ≡ parametric p center r rot.sin rot.cos }
@@ -23,22 +50,15 @@ fn agrees(t1: Point, r: Radii, rot: f64, sa: f64) -> bool
     tv.x * t1.x + tv.y * t1.y > 0.0
 }
 
-pub fn fitted_arc(
-    p1: Point,
-    t1: Point,
-    p2: Point,
-    center: Point,
-    squares: Squares,
-    rot: f64,
-) -> Fitted
-    ensures { result ≡ fitted_arc p1 t1 p2 center squares rot }
+pub fn fitted_arc(first: End, p2: Point, center: Point, squares: Squares, rot: f64) -> Fitted
+    ensures { result ≡ fitted_arc first.p first.t p2 center squares rot }
 {
     let r = Radii {
         a: root::sqrt(squares.rx_sq),
         b: root::sqrt(squares.ry_sq),
     };
     let turn = sine::sin_cos(rot);
-    let sa = parametric(p1, center, r, turn);
+    let sa = parametric(first.p, center, r, turn);
     let ea = parametric(p2, center, r, turn);
     Fitted {
         center,
@@ -47,6 +67,6 @@ pub fn fitted_arc(
         rotation: rot,
         start: sa,
         end: ea,
-        ccw: agrees(t1, r, rot, sa),
+        ccw: agrees(first.t, r, rot, sa),
     }
 }

@@ -7,57 +7,43 @@ mod target;
 ghost use Rattle.std.specs.Prelude.{◌≡◌};
 ghost use Rattle.earc_fit.specs.Fit.{conic_arc, fit_earc_tangent};
 
-use conics::conic::Conic;
-use conics::{axes, conic, lines};
+use conics::conic::{Conic, Pencil};
+use conics::lines::Line;
 use curves::Point;
+use ends::End;
 use shapes::Fitted;
+use target::Chord;
 
-// The arc on the conic q from p1, where it runs along t1, to p2.
+// The arc on the conic q from the first end to p2.
 #[tactic(auto, unfolding(crate::specs::Fit::conic_arc))]
-fn conic_arc(p1: Point, t1: Point, p2: Point, q: Conic) -> Option<Fitted>
-    ensures { result ≡ conic_arc p1 t1 p2 q }
+fn conic_arc(first: End, p2: Point, q: Conic) -> Option<Fitted>
+    ensures { result ≡ conic_arc first.p first.t p2 q }
 {
-    let det2 = axes::determinant(q);
-    if det2 <= 1e-12 {
-        return None;
-    }
-    let center = axes::center(q, det2);
-    let ev = axes::eigenvalues(q);
-    if axes::either_flat(ev) {
-        return None;
-    }
-    let squares = axes::radii_squared(q, center, ev);
-    if axes::either_unreal(squares) {
-        return None;
-    }
-    let rot = axes::rotation(q, ev);
-    Some(ends::fitted_arc(p1, t1, p2, center, squares, rot))
+    let center = q.center()?;
+    let ev = q.eigenvalues()?;
+    let squares = q.radii_squared(center, ev)?;
+    Some(ends::fitted_arc(first, p2, center, squares, q.rotation(ev)))
 }
 
-// m_len is the root of the same sum as chord_len. Its test stays, as every test of 001 has its own place.
+// The chord's line is normalized by the root of the same sum as the chord's length. Its test stays, as every test of 001 has its own place.
 #[tactic(auto, unfolding(crate::specs::Fit::fit_earc_tangent))]
 pub fn fit_earc_tangent(p1: Point, t1: Point, p2: Point, t2: Point, bulge: f64) -> Option<Fitted>
     ensures { result ≡ fit_earc_tangent p1 t1 p2 t2 bulge }
 {
-    let chord = lines::chord(p1, p2);
-    let chord_len = root::norm(chord.x, chord.y);
-    if chord_len < 1e-12 {
-        return None;
-    }
-    let m = lines::line_through(p1, chord);
-    let m_len = root::norm(m[0], m[1]);
-    if m_len < 1e-12 {
-        return None;
-    }
-    let m = lines::normalized(m, m_len);
-    let bulge_sign = target::bulge_sign(p1, t1, t2, chord, m);
-    let mid = target::target_mid(p1, p2, chord, chord_len, bulge_sign, bulge);
-    let m_val = lines::line_value(m, mid);
+    let first = End { p: p1, t: t1 };
+    let second = End { p: p2, t: t2 };
+    let chord = Chord::between(p1, p2)?;
+    let m = Line::through(p1, chord.way).normalized()?;
+    let bulge_sign = target::bulge_sign(first, second, chord.way, m);
+    let mid = chord.target_mid(bulge_sign, bulge);
+    let m_val = m.value_at(mid);
     if scalar::abs(m_val) < 1e-12 {
         return None;
     }
-    let l1 = lines::line_through(p1, t1);
-    let l2 = lines::line_through(p2, t2);
-    let lambda = conic::lambda(l1, l2, mid, m_val);
-    conic_arc(p1, t1, p2, conic::conic_matrix(l1, l2, m, lambda))
+    let pencil = Pencil {
+        l1: first.tangent(),
+        l2: second.tangent(),
+        m,
+    };
+    conic_arc(first, p2, pencil.conic(pencil.lambda(mid, m_val)))
 }
