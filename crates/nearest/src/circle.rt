@@ -47,13 +47,15 @@ fn in_range(a: Arc, angle: f64) -> bool
     }
 }
 
-// The end, where both ends are equally far.
+// The end, where both ends are equally far. Both points come before both roots, so that the processor takes the roots at once.
 fn end_dist(p: Point, a: Arc) -> Near
     ensures { result ≡ end_dist p a }
 {
     let search = Search::new(a, p);
-    let start = search.near(a.start);
-    let end = search.near(a.end);
+    let start_pos = search.at(a.start);
+    let end_pos = search.at(a.end);
+    let start = search.near(start_pos);
+    let end = search.near(end_pos);
     if start.dist < end.dist { start } else { end }
 }
 
@@ -62,19 +64,19 @@ pub fn part_dist(p: Point, a: Arc, off: Point) -> Near
     ensures { result ≡ part_dist p a off.x off.y }
 {
     let angle = arctan::atan2(off.y, off.x);
-    if !in_range(a, angle) {
-        return end_dist(p, a);
+    if in_range(a, angle) {
+        let d = root::norm(off.x, off.y);
+        if d < 1e-12 {
+            let at = sine::sin_cos(angle);
+            return Near {
+                dist: a.radius,
+                pos: Point {
+                    x: a.center.x + a.radius * at.cos,
+                    y: a.center.y + a.radius * at.sin,
+                },
+            };
+        }
+        return on_ray(a, off, d);
     }
-    let d = root::norm(off.x, off.y);
-    if d < 1e-12 {
-        let at = sine::sin_cos(angle);
-        return Near {
-            dist: a.radius,
-            pos: Point {
-                x: a.center.x + a.radius * at.cos,
-                y: a.center.y + a.radius * at.sin,
-            },
-        };
-    }
-    on_ray(a, off, d)
+    end_dist(p, a)
 }

@@ -35,5 +35,8 @@ pub fn point_to_ellipse_dist(p: Point, a: Arc) -> Near
     let span = span(a);
     let within = Stretch::between(a.start, a.start + span);
     let t = search.newton(within, search.best_of(span, 64).t);
-    nearest_of(search.near(a.start), search.near(a.end), search.near(t))
+    let start = search.at(a.start);
+    let end = search.at(a.end);
+    let found = search.at(t);
+    nearest_of(search.near(start), search.near(end), search.near(found))
 }

@@ -46,10 +46,9 @@ impl Search {
         arc::turn_point(self.a.center, self.a.radius, self.a.radius_b, self.turn, t)
     }
 
-    pub fn near(&self, t: f64) -> Near
-        ensures { result ≡ near self.now.p (arc_point_at self.now.a t) }
+    pub fn near(&self, pos: Point) -> Near
+        ensures { result ≡ near self.now.p pos }
     {
-        let pos = self.at(t);
         Near {
             dist: segments::distance(self.p, pos),
             pos,
