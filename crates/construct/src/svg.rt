@@ -7,27 +7,78 @@ use curves::{Point, Radii};
 use scalar::TAU;
 use sine::SinCos;
 
-pub fn identical(p1: Point, p2: Point) -> bool
-    ensures { result ≡ identical p1 p2 }
-{
-    (scalar::abs(p1.x - p2.x) < 1e-12) & (scalar::abs(p1.y - p2.y) < 1e-12)
+// The ends of the arc.
+#[derive(Clone, Copy)]
+pub struct Ends {
+    pub p1: Point,
+    pub p2: Point,
+}
+
+impl Ends {
+    pub fn identical(self) -> bool
+        ensures { result ≡ identical self.p1 self.p2 }
+    {
+        scalar::abs(self.p1.x - self.p2.x) < 1e-12 && scalar::abs(self.p1.y - self.p2.y) < 1e-12
+    }
+
+    pub fn primed(self, rot: SinCos) -> Point
+        ensures { result ≡ primed self.p1 self.p2 rot.sin rot.cos }
+    {
+        let dx = (self.p1.x - self.p2.x) / 2.0;
+        let dy = (self.p1.y - self.p2.y) / 2.0;
+        Point {
+            x: rot.cos * dx + rot.sin * dy,
+            y: -rot.sin * dx + rot.cos * dy,
+        }
+    }
+
+    pub fn turned_back(self, rot: SinCos, c: Point) -> Point
+        ensures { result ≡ turned_back self.p1 self.p2 rot.sin rot.cos c }
+    {
+        let mx = (self.p1.x + self.p2.x) / 2.0;
+        let my = (self.p1.y + self.p2.y) / 2.0;
+        Point {
+            x: rot.cos * c.x - rot.sin * c.y + mx,
+            y: rot.sin * c.x + rot.cos * c.y + my,
+        }
+    }
+}
+
+// Which of the arcs between the ends is meant.
+#[derive(Clone, Copy)]
+pub struct Flags {
+    pub large_arc: bool,
+    pub sweep: bool,
+}
+
+impl Flags {
+    fn sign(self) -> f64
+        ensures { result ≡ sign self.large_arc self.sweep }
+    {
+        if self.large_arc == self.sweep {
+            -1.0
+        } else {
+            1.0
+        }
+    }
+
+    pub fn swept(self, angle: f64) -> f64
+        ensures { result ≡ swept angle self.sweep }
+    {
+        if !self.sweep && angle > 0.0 {
+            angle - TAU
+        } else if self.sweep && angle < 0.0 {
+            angle + TAU
+        } else {
+            angle
+        }
+    }
 }
 
 pub fn straight(r: Radii) -> bool
     ensures { result ≡ straight r }
 {
-    (r.a < 1e-12) | (r.b < 1e-12)
-}
-
-pub fn primed(p1: Point, p2: Point, rot: SinCos) -> Point
-    ensures { result ≡ primed p1 p2 rot.sin rot.cos }
-{
-    let dx = (p1.x - p2.x) / 2.0;
-    let dy = (p1.y - p2.y) / 2.0;
-    Point {
-        x: rot.cos * dx + rot.sin * dy,
-        y: -rot.sin * dx + rot.cos * dy,
-    }
+    r.a < 1e-12 || r.b < 1e-12
 }
 
 pub fn lambda(p: Point, r: Radii) -> f64
@@ -41,12 +92,13 @@ pub fn enlarged(r: Radii, lambda: f64) -> Radii
 {
     if lambda > 1.0 {
         let s = root::sqrt(lambda);
-        return Radii {
+        Radii {
             a: r.a * s,
             b: r.b * s,
-        };
+        }
+    } else {
+        r
     }
-    r
 }
 
 fn quotient_root(p: Point, r: Radii) -> f64
@@ -64,34 +116,14 @@ fn quotient_root(p: Point, r: Radii) -> f64
     root::sqrt(num / den)
 }
 
-fn sign(large_arc: bool, sweep: bool) -> f64
-    ensures { result ≡ sign large_arc sweep }
-{
-    if large_arc == sweep {
-        return -1.0;
-    }
-    1.0
-}
-
-pub fn primed_center(p: Point, r: Radii, large_arc: bool, sweep: bool) -> Point
-    ensures { result ≡ primed_center p r large_arc sweep }
+pub fn primed_center(p: Point, r: Radii, flags: Flags) -> Point
+    ensures { result ≡ primed_center p r flags.large_arc flags.sweep }
 {
     let sq = quotient_root(p, r);
-    let s = sign(large_arc, sweep);
+    let s = flags.sign();
     Point {
         x: s * sq * r.a * p.y / r.b,
         y: s * sq * -r.b * p.x / r.a,
-    }
-}
-
-pub fn turned_back(p1: Point, p2: Point, rot: SinCos, c: Point) -> Point
-    ensures { result ≡ turned_back p1 p2 rot.sin rot.cos c }
-{
-    let mx = (p1.x + p2.x) / 2.0;
-    let my = (p1.y + p2.y) / 2.0;
-    Point {
-        x: rot.cos * c.x - rot.sin * c.y + mx,
-        y: rot.sin * c.x + rot.cos * c.y + my,
     }
 }
 
@@ -112,16 +144,4 @@ pub fn angle(u: Point, v: Point) -> f64
     let a = arccos::acos(scalar::clamp(dot / len, -1.0, 1.0));
     let cross = u.x * v.y - u.y * v.x;
     if cross < 0.0 { -a } else { a }
-}
-
-pub fn swept(angle: f64, sweep: bool) -> f64
-    ensures { result ≡ swept angle sweep }
-{
-    if !sweep & (angle > 0.0) {
-        return angle - TAU;
-    }
-    if sweep & (angle < 0.0) {
-        return angle + TAU;
-    }
-    angle
 }

@@ -12,7 +12,7 @@ use shapes::Near;
 fn nearest_of(start: Near, end: Near, found: Near) -> Near
     ensures { result ≡ nearest_of start end found }
 {
-    if (start.dist < found.dist) & (start.dist < end.dist) {
+    if start.dist < found.dist && start.dist < end.dist {
         start
     } else if end.dist < found.dist {
         end
