@@ -36,7 +36,7 @@ abbrev pub last_angle : Arc → Float
 last_angle arc = cond arc.closed (arc.start ⊕ tau) arc.end
 
 -- "Ellipse: sample the span, refine by local search."
-unfoldable pub on_ellipse : Arc → Point → Float
+abbrev pub on_ellipse : Arc → Point → Float
 on_ellipse arc p =
     let sa = arc.start in
     let ea = last_angle arc in

@@ -21,7 +21,7 @@ nearest_of start end found =
 abbrev pub span : Arc → Float
 span a = cond a.closed tau (a.end ⊖ a.start)
 
-unfoldable pub point_to_ellipse_dist : Point → Arc → Near
+abbrev pub point_to_ellipse_dist : Point → Arc → Near
 point_to_ellipse_dist p a =
     let sa = a.start in
     let within = between sa (sa ⊕ span a) in

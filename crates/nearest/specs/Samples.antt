@@ -14,7 +14,7 @@ use Rattle.nearest.specs.Squared.{squared_dist}
 abbrev pub sample : Arc → Float → ℕ → ℕ → Float
 sample a span n i = a.start ⊕ span ⊗ (of_int binary64 (pos i) ⊘ of_int binary64 (pos n))
 
-abbrev pub closer : Arc → Point → Float → Best → Best
+unfoldable pub closer : Arc → Point → Float → Best → Best
 closer a p t best =
     let d = squared_dist p (arc_point_at a t) in
     cond (lt d best.d) (record { t = t; d = d }) best

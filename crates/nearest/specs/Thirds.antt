@@ -14,7 +14,7 @@ use Rattle.nearest.specs.Squared.{squared_dist}
 abbrev pub between : Float → Float → Stretch
 between s e = record { lo = minimum s e; hi = maximum s e }
 
-abbrev pub shrunk : Arc → Point → Stretch → Stretch
+unfoldable pub shrunk : Arc → Point → Stretch → Stretch
 shrunk a p s =
     let m1 = s.lo ⊕ (s.hi ⊖ s.lo) ⊘ three in
     let m2 = s.hi ⊖ (s.hi ⊖ s.lo) ⊘ three in

@@ -27,7 +27,6 @@ fn span(a: Arc) -> f64
     if a.closed { TAU } else { a.end - a.start }
 }
 
-#[tactic(auto, unfolding(crate::specs::EllipseDist::point_to_ellipse_dist))]
 pub fn point_to_ellipse_dist(p: Point, a: Arc) -> Near
     ensures { result ≡ point_to_ellipse_dist p a }
 {

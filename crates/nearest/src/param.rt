@@ -31,7 +31,6 @@ fn last_angle(arc: Arc) -> f64
     if arc.closed { arc.start + TAU } else { arc.end }
 }
 
-#[tactic(auto, unfolding(crate::specs::ArcParam::on_ellipse))]
 fn on_ellipse(arc: Arc, p: Point) -> f64
     ensures { result ≡ on_ellipse arc p }
 {

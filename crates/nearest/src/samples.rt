@@ -18,6 +18,7 @@ impl Search {
         self.a.start + span * ((i as f64) / (n as f64))
     }
 
+    #[tactic(auto, unfolding(crate::specs::Samples::closer))]
     fn closer(&self, t: f64, best: Best) -> Best
         ensures { result ≡ closer self.now.a self.now.p t best }
     {

@@ -30,6 +30,7 @@ impl Stretch {
 
 impl Search {
     // The outer third beside the farther of the two inner points is dropped.
+    #[tactic(auto, unfolding(crate::specs::Thirds::shrunk))]
     fn shrink(&self, s: Stretch) -> Stretch
         ensures { result ≡ shrunk self.now.a self.now.p s }
     {
