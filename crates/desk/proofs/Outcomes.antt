@@ -4,6 +4,7 @@ use mathlib.Core.Bool.{Bool, true, false, cond, ◌||◌}
 use mathlib.Core.List.{List, []}
 use Prim.Native.Nat.{ℕ, ◌+◌, ◌≤◌}
 use native.Mathlib.Omega.{arith}
+use Rattle.std.proofs.Common.{Option, Some, None}
 use borrow.Author.Tests.{ltb-false}
 use lib.Dec.{eqb, ltb}
 use lib.ListN.{length}
@@ -15,7 +16,7 @@ use Rattle.curves.specs.declared.Curve.{Curve}
 use Rattle.checks.specs.Refusal.{accepted, malformed_line}
 use Rattle.calls_curves.specs.Curves.{curves_outcome}
 use Rattle.desk_line.specs.declared.Line.{Line}
-use Rattle.desk_line.specs.declared.Line.TheVariants.{Query, Malformed}
+use Rattle.desk_line.specs.declared.Line.TheVariants.{Query}
 use Rattle.desk.specs.declared.Table.{Table}
 use Rattle.desk.specs.declared.Answered.{Answered}
 use Rattle.desk.specs.Table.{record_at, stored}
@@ -49,7 +50,7 @@ stays_same n t = go (eqb n accepted)
     go false = refl
 
 module _ (t : Table) (line : ℕ) (room : List Float) (out : List ℕ) where
-  pub short-answered : (l : Line) → short room out ≡ true → untouched t room out ≡ answer t line l room out
+  pub short-answered : (l : Option Line) → short room out ≡ true → untouched t room out ≡ answer t line l room out
   unfolding answer
   short-answered l e = rw e refl
 
@@ -57,7 +58,7 @@ module _ (t : Table) (line : ℕ) (room : List Float) (out : List ℕ) where
     abbrev after : After
     after = record { answered = r; room = room'; out = out' }
 
-    answered_as : (l : Line) → r.table ≡ table_after t l → r.short ≡ false → Put out 0 (shown t line l).bytes r.printed out' → room' ≡ written (shown t line l).hits room
+    answered_as : (l : Option Line) → r.table ≡ table_after t l → r.short ≡ false → Put out 0 (shown t line l).bytes r.printed out' → room' ≡ written (shown t line l).hits room
         → after ≡ answer t line l room out
     unfolding answer
     answered_as l table told put hits =
@@ -75,22 +76,22 @@ module _ (t : Table) (line : ℕ) (room : List Float) (out : List ℕ) where
     abbrev Keeps : Curve → Type 0
     Keeps c = (r.table ≡ stays (record_refusal t c) t (stored t c)) × (r.short ≡ false) × Put out 0 (unless (record_refusal t c) line nothing).bytes r.printed out'
 
-    pub kept-answered : (l : Line) (c : Curve) → table_after t l ≡ stays (record_refusal t c) t (stored t c) → shown t line l ≡ unless (record_refusal t c) line nothing → Keeps c → room' ≡ room
+    pub kept-answered : (l : Option Line) (c : Curve) → table_after t l ≡ stays (record_refusal t c) t (stored t c) → shown t line l ≡ unless (record_refusal t c) line nothing → Keeps c → room' ≡ room
         → after ≡ answer t line l room out
     kept-answered l c table bytes k e = answered_as l (k.0 ∙ sym table) k.1 (rw bytes k.2) (rw bytes (e ∙ unless-nothing (record_refusal t c) line room))
 
     pub query-answered : (i j depth : ℕ) → r.table ≡ t → r.short ≡ false
         → Shows (unless (query_refusal t i j depth) line (crossed line (curves_outcome (record_at t i) (record_at t j) depth))) room out r.printed room' out'
-        → after ≡ answer t line (Query i j depth) room out
+        → after ≡ answer t line (Some (Query i j depth)) room out
     unfolding shown table_after
-    query-answered i j depth table told s = answered_as (Query i j depth) (table ∙ stays_same (query_refusal t i j depth) t) told s.bytes s.hits
+    query-answered i j depth table told s = answered_as (Some (Query i j depth)) (table ∙ stays_same (query_refusal t i j depth) t) told s.bytes s.hits
 
-    pub malformed_answered : r.table ≡ t → r.short ≡ false → Put out 0 (refused_line line malformed_line) r.printed out' → room' ≡ room → after ≡ answer t line Malformed room out
+    pub malformed_answered : r.table ≡ t → r.short ≡ false → Put out 0 (refused_line line malformed_line) r.printed out' → room' ≡ room → after ≡ answer t line None room out
     unfolding shown table_after
-    malformed_answered table told put e = answered_as Malformed table told put (e ∙ sym (written_none room))
+    malformed_answered table told put e = answered_as None table told put (e ∙ sym (written_none room))
 
 -- NO SECOND OUTCOME: the answer, the room and the buffer afterwards are fixed
-pub answer_unique : (t : Table) (line : ℕ) (l : Line) (room : List Float) (out : List ℕ) (x y : After) → x ≡ answer t line l room out → y ≡ answer t line l room out
+pub answer_unique : (t : Table) (line : ℕ) (l : Option Line) (room : List Float) (out : List ℕ) (x y : After) → x ≡ answer t line l room out → y ≡ answer t line l room out
     → (x.answered ≡ y.answered) × (x.room ≡ y.room) × (x.out ≡ y.out)
 answer_unique t line l room out x y p q =
     let same = p ∙ sym q in

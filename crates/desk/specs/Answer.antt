@@ -1,7 +1,7 @@
 -- What a call leaves: the answer, the room and the buffer. A room below the largest need (01: "1,024 times 2^depth"), that of one hit in each cell at the deepest, or a buffer below
 -- 262,144 bytes, which as many hit lines and an end line fit, is short: nothing is done. Else the bytes stand at the buffer's start and the hits at the room's, and the rest is as
 -- lent.
-use Rattle.std.specs.Prelude.{ℕ, ◌≡◌, Bool, true, false, cond, ◌||◌, List, ltb, length, Float}
+use Rattle.std.specs.Prelude.{ℕ, ◌≡◌, Bool, true, false, cond, ◌||◌, List, ltb, length, Option, Float}
 use Rattle.hits.specs.Hit.{written}
 use Rattle.hits.specs.Need.{need}
 use Rattle.hunt.specs.Cells.{cells}
@@ -37,7 +37,7 @@ abbrev pub done : Table → Shown → List Float → List ℕ → After
 done t s room out = record { answered = record { table = t; printed = length s.bytes; short = false }; room = written s.hits room; out = spliced out 0 s.bytes }
 
 -- THE PROMISE of a call
-unfoldable pub answer : Table → ℕ → Line → List Float → List ℕ → After
+unfoldable pub answer : Table → ℕ → Option Line → List Float → List ℕ → After
 answer t line l room out = cond (short room out) (untouched t room out) (done (table_after t l) (shown t line l) room out)
 
 -- the same of a step that shows s: the room and the buffer before; how many bytes, and both after

@@ -1,6 +1,6 @@
 -- 01, 'The program arcdesk and its lines': "A line is tested for 7, then 9 or 8, then 1, 2, 3." The table of refusals: 7 "malformed line", 8 "record number not in the table",
 -- 9 "a 65th record", 3 "depth above 3 (arc pairs, and every query line)". The room has the need of every query, so that 4 is no refusal of a line: no room is short here.
-use Rattle.std.specs.Prelude.{ℕ, false, cond, ◌&&◌, ◌++◌, ltb}
+use Rattle.std.specs.Prelude.{ℕ, false, cond, ◌&&◌, ◌++◌, ltb, Option, Some, None}
 use Rattle.curves.specs.declared.Curve.{Curve}
 use Rattle.curves.specs.declared.Curve.TheVariants as curve
 use Rattle.checks.specs.Given.{curve_numbers}
@@ -23,8 +23,8 @@ unfoldable pub query_refusal : Table → ℕ → ℕ → ℕ → ℕ
 query_refusal t i j depth = cond (held t.count i && held t.count j) (pair_refusal (record_at t i) (record_at t j) depth) no_such_record
 
 -- `accepted` for none
-abbrev pub refusal : Table → Line → ℕ
-refusal t (says.Segment x1 y1 x2 y2) = record_refusal t (curve.Segment x1 y1 x2 y2)
-refusal t (says.Arc a) = record_refusal t (curve.Arc a)
-refusal t (says.Query i j depth) = query_refusal t i j depth
-refusal t says.Malformed = malformed_line
+abbrev pub refusal : Table → Option Line → ℕ
+refusal t (Some (says.Segment x1 y1 x2 y2)) = record_refusal t (curve.Segment x1 y1 x2 y2)
+refusal t (Some (says.Arc a)) = record_refusal t (curve.Arc a)
+refusal t (Some (says.Query i j depth)) = query_refusal t i j depth
+refusal t None = malformed_line

@@ -1,6 +1,6 @@
 -- 01, 'The program arcdesk and its lines': "A refused line prints `R`, line number, refusal, and the table stays. An `S` or `A` that is taken prints nothing." A query prints its hits
 -- and its end line.
-use Rattle.std.specs.Prelude.{ℕ, cond, List, [], ◌++◌, eqb}
+use Rattle.std.specs.Prelude.{ℕ, cond, List, [], ◌++◌, eqb, Option, Some, None}
 use Rattle.hits.specs.declared.CurveHit.{CurveHit}
 use Rattle.hits.specs.Outcome.{Outcome, tally}
 use Rattle.curves.specs.declared.Curve.TheVariants as curve
@@ -36,21 +36,21 @@ abbrev pub stays : ℕ → Table → Table → Table
 stays n t next = cond (eqb n accepted) next t
 
 -- of a line that is not refused, as a malformed one always is
-abbrev pub taken : Table → ℕ → Line → Shown
-taken t line (says.Segment x1 y1 x2 y2) = nothing
-taken t line (says.Arc a) = nothing
-taken t line (says.Query i j depth) = crossed line (curves_outcome (record_at t i) (record_at t j) depth)
-taken t line says.Malformed = nothing
+abbrev pub taken : Table → ℕ → Option Line → Shown
+taken t line (Some (says.Segment x1 y1 x2 y2)) = nothing
+taken t line (Some (says.Arc a)) = nothing
+taken t line (Some (says.Query i j depth)) = crossed line (curves_outcome (record_at t i) (record_at t j) depth)
+taken t line None = nothing
 
-abbrev pub grown : Table → Line → Table
-grown t (says.Segment x1 y1 x2 y2) = stored t (curve.Segment x1 y1 x2 y2)
-grown t (says.Arc a) = stored t (curve.Arc a)
-grown t (says.Query i j depth) = t
-grown t says.Malformed = t
+abbrev pub grown : Table → Option Line → Table
+grown t (Some (says.Segment x1 y1 x2 y2)) = stored t (curve.Segment x1 y1 x2 y2)
+grown t (Some (says.Arc a)) = stored t (curve.Arc a)
+grown t (Some (says.Query i j depth)) = t
+grown t None = t
 
 -- THE RULE of one line: what it shows, and the table after it
-unfoldable pub shown : Table → ℕ → Line → Shown
+unfoldable pub shown : Table → ℕ → Option Line → Shown
 shown t line l = unless (refusal t l) line (taken t line l)
 
-unfoldable pub table_after : Table → Line → Table
+unfoldable pub table_after : Table → Option Line → Table
 table_after t l = stays (refusal t l) t (grown t l)

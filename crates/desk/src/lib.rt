@@ -55,7 +55,13 @@ pub fn empty() -> Table
 }
 
 // The table, the number of the line and the line. The bytes to print go to `out`, and a query's hits to `room`.
-pub fn answer(table: Table, number: u64, line: Line, room: &mut [f64], out: &mut [u8]) -> Answered
+pub fn answer(
+    table: Table,
+    number: u64,
+    line: Option<Line>,
+    room: &mut [f64],
+    out: &mut [u8],
+) -> Answered
     ensures { record { answered = result; room = room.new; out = out.new } ≡ answer table number line room.old out.old }
 {
     if (room.len() < ROOM_NEED) | (out.len() < OUT_NEED) {
@@ -66,19 +72,25 @@ pub fn answer(table: Table, number: u64, line: Line, room: &mut [f64], out: &mut
         };
     }
     match line {
-        Line::Segment(x1, y1, x2, y2) => {
+        Some(Line::Segment(x1, y1, x2, y2)) => {
             records::keep(table, Curve::Segment(x1, y1, x2, y2), number, out)
         }
-        Line::Arc(a) => records::keep(table, Curve::Arc(a), number, out),
-        Line::Query(i, j, depth) => {
-            let printed = crossings::query(table, i, j, depth, number, room, out);
+        Some(Line::Arc(a)) => records::keep(table, Curve::Arc(a), number, out),
+        Some(
+            Line::Query {
+                first,
+                second,
+                depth,
+            },
+        ) => {
+            let printed = crossings::query(table, first, second, depth, number, room, out);
             Answered {
                 table,
                 printed,
                 short: false,
             }
         }
-        Line::Malformed => {
+        None => {
             let printed = desk_print::refused_line(out, number, MALFORMED_LINE);
             Answered {
                 table,

@@ -1,81 +1,90 @@
--- What a field that was taken is in the line: a tab and its text, whatever follows.
-use mathlib.Core.Path.{◌≡◌, ap, ◌∙◌}
-use mathlib.Core.List.{List, [], ◌∷◌}
-use Prim.Native.Nat.{ℕ, ◌+◌, ◌≤◌, ◌<◌}
-use native.Mathlib.Decide.{dec_lt}
-use native.Mathlib.Numerals.{add-one}
-use native.Mathlib.Omega.{arith}
-use lib.ListN.{length, get_or, drop, get_or-eq_default}
-use lib.Seq.{drop-cons, drop-drop}
+-- What a field that was read is in the line: a tab and its text, and then what is left.
+use Rattle.std.proofs.Common.{◌≡◌, ℕ, ◌<◌, Bool, true, false, List, [], ◌∷◌, ◌++◌, Some, sym, ap, ◌∙◌, arith}
+use Rattle.std.proofs.lemmas.Option.{none-some, same_Some, some_pair_parts, option_and_then_some}
+use native.Mathlib.Decide.{ℕ_discrete}
+use borrow.Author.Tests.{eq-eqb, ne_eqb}
 use lib.Ieee.{Float, of_bits, binary64}
-use Rattle.digits.specs.Decimal.{decimal_digit}
-use Rattle.desk_fields.specs.declared.Field.{Field}
-use Rattle.desk_fields.specs.declared.Field.TheVariants as field
-use Rattle.desk_fields.specs.declared.Numbered.TheVariants as numbered
-use Rattle.desk_fields.specs.Text.{tabbed, Bits, written, RecordNumber}
-use Rattle.desk_fields.specs.Field.{number_at, digit_at, run, run_at, record_at}
-use Rattle.desk_fields.proofs.Digits.{digit-of}
-use Rattle.desk_fields.proofs.Taken.{number-taken, digit-taken, record_taken, place}
-use Rattle.desk_fields.proofs.Hex.{hex-taken}
-use Rattle.desk_fields.proofs.Runs.{run_split, run_numeral}
+use Rattle.digits.specs.Decimal.{decimal_digit, digit_value}
+use Rattle.digits.proofs.Values.{digit-from_value}
+use Rattle.desk_fields.specs.Text.{tabbed, Bits, written, mark, RecordNumber}
+use Rattle.desk_fields.specs.Field.{byte_of, tab_of, bits_of, number_of, digit_of, mark_of, run_of, record_of}
+use Rattle.desk_fields.proofs.Steps.{byte_text, tab_text}
+use Rattle.desk_fields.proofs.Hex.{hex_text}
+use Rattle.desk_fields.proofs.Runs.{numeral_text}
 
--- a byte that is not 0 is not past the end
-pub drop_byte : (line : List ℕ) (at : ℕ) → 0 < get_or line at 0 → drop at line ≡ get_or line at 0 ∷ drop (at + 1) line
-drop_byte line at h =
-    elim (dec_lt at (length line)) [
-      | yes l ↦ rw add-one (drop-cons line at 0 l)
-      | no l ↦ let z = get_or-eq_default line 0 {n = at} (omega arith) in absurd (omega arith)
-    ]
+-- the line is a field, whatever fields are left
+abbrev pub Text : List ℕ → List ℕ → List ℕ → Type 0
+Text line f rest = (fs : List (List ℕ)) → rest ≡ tabbed fs → line ≡ tabbed (f ∷ fs)
 
-drop-tab : (line : List ℕ) (at : ℕ) → get_or line at 0 ≡ 9 → drop at line ≡ 9 ∷ drop (at + 1) line
-drop-tab line at t = rw t at (drop_byte line at (omega arith))
+tabbed_text : (line digits f rest : List ℕ) → line ≡ 9 ∷ digits → digits ≡ f ++ rest → Text line f rest
+unfolding tabbed
+tabbed_text line digits f rest t d fs e = t ∙ ap (λ (l : List ℕ). 9 ∷ l) (d ∙ ap (λ (l : List ℕ). f ++ l) e)
 
--- ---- from a place to the next, the text is one field
-abbrev pub Text : List ℕ → ℕ → ℕ → List ℕ → Type 0
-Text line at next f = (fs : List (List ℕ)) → drop next line ≡ tabbed fs → drop at line ≡ tabbed (f ∷ fs)
-
-pub record Number (line : List ℕ) (at next : ℕ) (x : Float) : Type 0 where
+pub record Number (line : List ℕ) (x : Float) (rest : List ℕ) : Type 0 where
   pub number : Bits x
-  pub text : Text line at next (written number)
+  pub text : Text line (written number) rest
 
--- the bits that a number read has
-pub record Held (p : Field) (x : Float) : Type 0 where
-  pub bits : ℕ
-  pub read : p ≡ field.Of bits
-  pub number : x ≡ of_bits binary64 bits
-
-pub number_text : (line : List ℕ) (at next : ℕ) (x : Float) → next ≡ at + 17 → Held (number_at line at) x → Number line at next x
-unfolding tabbed
-number_text line at next x n h =
-    let t = number-taken line at h.bits h.read in
-    let w = hex-taken h.bits (drop (at + 1) line) t.bits in
-    let m : at + 1 + 16 ≡ next = omega arith in
+pub number_text : (line : List ℕ) (x : Float) (rest : List ℕ) → number_of line ≡ Some (x, rest) → Number line x rest
+unfolding number_of
+number_text line x rest e =
+    option_and_then_some _ (tab_of line) (x, rest) e (λ t tab digits.
+    option_and_then_some _ (bits_of t.1) (x, rest) digits (λ b bits gives.
+    let s = some_pair_parts (of_bits binary64 b.0) x b.1 rest gives in
+    let h = hex_text b.0 t.1 b.1 bits in
     record {
-      number = record { bits = h.bits; small = w.small; number = h.number };
-      text = λ fs r. drop-tab line at t.tab ∙ ap (λ (l : List ℕ). 9 ∷ l) (w.text ∙ rw (drop-drop, m, r));
-    }
+      number = record { bits = b.0; small = h.small; number = sym s.0 };
+      text = tabbed_text line t.1 _ rest (tab_text line t.1 t.0 tab) (rw (← s.1) h.text);
+    }))
 
-pub digit_text : (line : List ℕ) (at next top d : ℕ) → top ≤ 9 → next ≡ at + 2 → digit_at line at top ≡ field.Of d → Text line at next (decimal_digit d ∷ [])
-unfolding tabbed
-digit_text line at next top d s n e fs r =
-    let t = digit-taken line at top d e in
-    let g = digit-of (get_or line (at + 1) 0) (omega (arith, t.value, t.small)) in
-    let v : get_or line (at + 1) 0 ≡ 48 + d = omega (arith, t.value, g.value, g.low) in
-    let m : at + 1 + 1 ≡ next = omega arith in
-    drop-tab line at t.tab ∙ ap (λ (l : List ℕ). 9 ∷ l) (rw (v, m, r) at (drop_byte line (at + 1) (omega arith)))
+pub record Digit (line : List ℕ) (d : ℕ) (rest : List ℕ) : Type 0 where
+  pub small : d < 10
+  pub text : Text line (decimal_digit d ∷ []) rest
 
-pub record Record (line : List ℕ) (at next v : ℕ) : Type 0 where
-  pub number : RecordNumber v
-  pub text : Text line at next number.digits
-
-pub record_text : (line : List ℕ) (at next v : ℕ) → record_at line at ≡ numbered.Of v next → Record line at next v
-unfolding tabbed run_at
-record_text line at next v e =
-    let t = record_taken line at v next e in
-    let g = digit-of (get_or line (at + 1) 0) t.digit in
-    let b = drop_byte line (at + 1) (omega arith) in
-    let p = place _ _ v next t.digits in
+pub digit_text : (line : List ℕ) (d : ℕ) (rest : List ℕ) → digit_of line ≡ Some (d, rest) → Digit line d rest
+unfolding digit_of
+digit_text line d rest e =
+    option_and_then_some _ (tab_of line) (d, rest) e (λ t tab digits.
+    option_and_then_some _ (byte_of t.1) (d, rest) digits (λ b byte value.
+    option_and_then_some _ (digit_value b.0) (d, rest) value (λ v valued gives.
+    let s = some_pair_parts v d b.1 rest gives in
+    let g = digit-from_value b.0 v valued in
     record {
-      number = record { digits = run (drop (at + 1) line); numeral = rw b (run_numeral (get_or line (at + 1) 0) (drop (at + 1 + 1) line) t.above t.digit); number = cc };
-      text = λ fs r. drop-tab line at t.tab ∙ ap (λ (l : List ℕ). 9 ∷ l) (run_split (drop (at + 1) line) ∙ rw (drop-drop, p, r));
-    }
+      small = omega (arith, g.small, s.0);
+      text = tabbed_text line t.1 _ rest (tab_text line t.1 t.0 tab) (rw (← s.0, ← s.1, ← g.byte) (byte_text t.1 b.0 b.1 byte));
+    })))
+
+pub mark_text : (line : List ℕ) (m : Bool) (rest : List ℕ) → mark_of line ≡ Some (m, rest) → Text line (mark m) rest
+unfolding mark_of
+mark_text line m rest e =
+    option_and_then_some _ (digit_of line) (m, rest) e (λ d digit gives.
+    let t = (digit_text line d.0 d.1 digit).text in
+    elim (ℕ_discrete d.0 0) [
+      | yes z ↦ let s = some_pair_parts false m d.1 rest (rw (eq-eqb d.0 0 z) at gives) in let t' : Text line (decimal_digit 0 ∷ []) d.1 = rw z at t in rw (← s.0, ← s.1) t'
+      | no z ↦ elim (ℕ_discrete d.0 1) [
+        | yes o ↦ let s = some_pair_parts true m d.1 rest (rw (ne_eqb d.0 0 z, eq-eqb d.0 1 o) at gives) in let t' : Text line (decimal_digit 1 ∷ []) d.1 = rw o at t in rw (← s.0, ← s.1) t'
+        | no o ↦ absurd (none-some (m, rest) (rw (ne_eqb d.0 0 z, ne_eqb d.0 1 o) at gives))
+      ]
+    ])
+
+pub record Record (line : List ℕ) (n : ℕ) (rest : List ℕ) : Type 0 where
+  pub number : RecordNumber n
+  pub text : Text line number.digits rest
+
+pub record_text : (line : List ℕ) (n : ℕ) (rest : List ℕ) → record_of line ≡ Some (n, rest) → Record line n rest
+unfolding record_of
+record_text line n rest e =
+    option_and_then_some _ (tab_of line) (n, rest) e (λ t tab digits.
+    option_and_then_some _ (byte_of t.1) (n, rest) digits (λ b byte value.
+    option_and_then_some _ (digit_value b.0) (n, rest) value (λ lead valued gives.
+    elim (ℕ_discrete lead 0) [
+      | yes z ↦ absurd (none-some (n, rest) (rw (eq-eqb lead 0 z) at gives))
+      | no z ↦
+          let s = same_Some (run_of t.1) (n, rest) (rw (ne_eqb lead 0 z) at gives) in
+          let r = numeral_text b.0 lead b.1 valued z in
+          let bytes = byte_text t.1 b.0 b.1 byte in
+          let runs = rw bytes at s in
+          record {
+            number = record { digits = r.digits; numeral = r.numeral; number = ap (λ (p : ℕ × List ℕ). p.0) (sym runs) ∙ r.number };
+            text = tabbed_text line t.1 r.digits rest (tab_text line t.1 t.0 tab) (bytes ∙ r.text ∙ ap (λ (p : ℕ × List ℕ). r.digits ++ p.1) runs);
+          }
+    ])))

@@ -1,45 +1,73 @@
--- 01, 'The program arcdesk and its lines': "fields parted by one tab". One field, read at the place of its tab. A place past the end reads as byte 0, which is no digit and no tab.
-use Rattle.std.specs.Prelude.{ℕ, zero as nought, suc, ◌+◌, ◌*◌, cond, List, [], ◌∷◌, leb, ltb, eqb, length, get_or, drop}
-use Rattle.desk_fields.specs.declared.Field.{Field}
-use Rattle.desk_fields.specs.declared.Field.TheVariants as field
-use Rattle.desk_fields.specs.declared.Numbered.{Numbered}
-use Rattle.desk_fields.specs.declared.Numbered.TheVariants as numbered
-use Rattle.desk_fields.specs.Text.{value_after, capped}
+-- 01, 'The program arcdesk and its lines': "fields parted by one tab". A field is read off what is left of a line: its value, and what is left then; none where there is no such field.
+use Rattle.std.specs.Prelude.{ℕ, zero as nought, suc, ◌+◌, ◌*◌, cond, Bool, true, false, List, [], ◌∷◌, eqb, Option, Some, None, option_and_then, option_map, Float}
+use Rattle.std.specs.Option.{option_map_or}
+use Rattle.std.specs.Float.Ieee.{of_bits}
+use Rattle.std.specs.Float.{binary64}
+use Rattle.desk_fields.specs.Text.{capped}
 use Rattle.digits.specs.Hex.{hex_value}
-use Rattle.desk_fields.specs.Digit.{digit_value}
+use Rattle.digits.specs.Decimal.{digit_value}
 
--- k hex digits that come after the value v
-unfoldable pub bits_after : ℕ → ℕ → List ℕ → Field
-bits_after nought v bs = field.Of v
-bits_after (suc k) v [] = field.None
-bits_after (suc k) v (b ∷ bs) = cond (leb 16 (hex_value b)) field.None (bits_after k (v * 16 + hex_value b) bs)
+infixl 10 ◌>>=◌
+abbrev pub ◌>>=◌ : {A B : Type 0} → Option A → (A → Option B) → Option B
+o >>= f = option_and_then f o
 
-abbrev pub bits_at : List ℕ → ℕ → Field
-bits_at line at = bits_after 16 0 (drop at line)
+-- what a call gives, with what it leaves
+abbrev pub leaving : {A : Type 0} → Option A → List ℕ → Option (A × List ℕ)
+leaving read rest = option_map (λ x. (x, rest)) read
 
-unfoldable pub number_at : List ℕ → ℕ → Field
-number_at line at = cond (eqb (get_or line at 0) 9) (bits_at line (at + 1)) field.None
+abbrev pub byte_of : List ℕ → Option (ℕ × List ℕ)
+byte_of [] = None
+byte_of (b ∷ rest) = Some (b, rest)
 
--- one digit from 0 to top
-unfoldable pub digit_at : List ℕ → ℕ → ℕ → Field
-digit_at line at top =
-    let d = digit_value (get_or line (at + 1) 0) in
-    cond (eqb (get_or line at 0) 9) (cond (leb d top) (field.Of d) field.None) field.None
+abbrev pub tab_of : List ℕ → Option (Unit × List ℕ)
+tab_of line = do
+  (b, rest) ← byte_of line
+  cond (eqb b 9) (Some (tt, rest)) None
 
--- the digits that a list begins with
-unfoldable pub run : List ℕ → List ℕ
-run [] = []
-run (b ∷ bs) = cond (leb 10 (digit_value b)) [] (b ∷ run bs)
+-- k hex digits behind the value v
+unfoldable pub bits_after : ℕ → ℕ → List ℕ → Option (ℕ × List ℕ)
+bits_after nought v line = Some (v, line)
+bits_after (suc k) v line = do
+  (b, rest) ← byte_of line
+  d ← hex_value b
+  bits_after k (v * 16 + d) rest
 
-unfoldable pub run_at : List ℕ → ℕ → Numbered
-run_at line at =
-    let ds = run (drop at line) in
-    numbered.Of (capped (value_after 0 ds)) (at + length ds)
+abbrev pub bits_of : List ℕ → Option (ℕ × List ℕ)
+bits_of line = bits_after 16 0 line
 
-unfoldable pub record_at : List ℕ → ℕ → Numbered
-record_at line at =
-    let lead = digit_value (get_or line (at + 1) 0) in
-    cond (eqb (get_or line at 0) 9)
-    (cond (eqb lead 0) numbered.None
-    (cond (ltb lead 10) (run_at line (at + 1)) numbered.None))
-    numbered.None
+unfoldable pub number_of : List ℕ → Option (Float × List ℕ)
+number_of line = do
+  (_, digits) ← tab_of line
+  (bits, rest) ← bits_of digits
+  Some (of_bits binary64 bits, rest)
+
+unfoldable pub digit_of : List ℕ → Option (ℕ × List ℕ)
+digit_of line = do
+  (_, digits) ← tab_of line
+  (b, rest) ← byte_of digits
+  d ← digit_value b
+  Some (d, rest)
+
+unfoldable pub mark_of : List ℕ → Option (Bool × List ℕ)
+mark_of line = do
+  (d, rest) ← digit_of line
+  cond (eqb d 0) (Some (false, rest)) (cond (eqb d 1) (Some (true, rest)) None)
+
+-- digits behind the value v, as many as there are
+unfoldable pub run_after : ℕ → List ℕ → ℕ × List ℕ
+run_after v [] = (v, [])
+run_after v (b ∷ rest) = option_map_or (λ d. run_after (capped (v * 10 + d)) rest) (digit_value b) (v, b ∷ rest)
+
+abbrev pub run_of : List ℕ → ℕ × List ℕ
+run_of line = run_after 0 line
+
+unfoldable pub record_of : List ℕ → Option (ℕ × List ℕ)
+record_of line = do
+  (_, digits) ← tab_of line
+  (b, rest) ← byte_of digits
+  lead ← digit_value b
+  cond (eqb lead 0) None (Some (run_of digits))
+
+abbrev pub end_of : List ℕ → Option Unit
+end_of [] = Some tt
+end_of (b ∷ rest) = None

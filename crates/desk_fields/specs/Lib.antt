@@ -1,5 +1,3 @@
 -- What the contracts of the crate cite, and the bytes that a field consists of.
 pub mod Text
-pub mod Digit
 pub mod Field
-pub mod Fields

@@ -1,37 +1,110 @@
-// The fields of a line, read one by one.
+// The fields of a line, read one by one off what is left of it.
 #![tactic(auto)]
 
-pub mod bytes;
-pub mod fields;
+ghost use Rattle.std.specs.Prelude.{◌≡◌};
+ghost use Rattle.desk_fields.specs.Text.{capped};
 
-// What a field of 16 hex digits or of one digit holds.
-#[derive(Clone, Copy)]
-pub enum Field {
-    Of(u64),
-    None,
+fn capped(n: usize) -> usize
+    ensures { result ≡ capped n }
+{
+    n.min(65)
 }
 
-// A record number and the place after its last digit.
+// What is left of a line. Each field stands behind a tab. Where a field is not there, what is left then is not said.
 #[derive(Clone, Copy)]
-pub enum Numbered {
-    Of(usize, usize),
-    None,
+pub struct Fields<'a> {
+    pub rest: &'a [u8],
 }
 
-#[derive(Clone, Copy)]
-pub enum Four {
-    Of(f64, f64, f64, f64),
-    None,
-}
+impl<'a> Fields<'a> {
+    ghost use Rattle.desk_fields.specs.Field.{leaving, byte_of, tab_of, bits_of, number_of, digit_of, mark_of, run_of, record_of, end_of};
 
-#[derive(Clone, Copy)]
-pub enum Three {
-    Of(f64, f64, f64),
-    None,
-}
+    pub fn byte(&mut self) -> Option<u8>
+        ensures { leaving result self.new.rest.now ≡ byte_of self.old.rest.now }
+    {
+        let (&b, rest) = self.rest.split_first()?;
+        self.rest = rest;
+        Some(b)
+    }
 
-#[derive(Clone, Copy)]
-pub enum Marks {
-    Of(bool, bool, bool),
-    None,
+    fn tab(&mut self) -> Option<()>
+        ensures { leaving result self.new.rest.now ≡ tab_of self.old.rest.now }
+    {
+        match self.byte()? {
+            b'\t' => Some(()),
+            _ => None,
+        }
+    }
+
+    // The number whose 16 hex digits are next.
+    fn bits(&mut self) -> Option<u64>
+        ensures { leaving result self.new.rest.now ≡ bits_of self.old.rest.now }
+    {
+        let mut bits = 0;
+        for _ in 0..16u64 {
+            bits = bits * 16 + u64::from(digits::hex_value(self.byte()?)?);
+        }
+        Some(bits)
+    }
+
+    #[tactic(auto, unfolding(crate::specs::Field::number_of))]
+    pub fn number(&mut self) -> Option<f64>
+        ensures { leaving result self.new.rest.now ≡ number_of self.old.rest.now }
+    {
+        self.tab()?;
+        Some(scalar::from_bits(self.bits()?))
+    }
+
+    #[tactic(auto, unfolding(crate::specs::Field::digit_of))]
+    pub fn digit(&mut self) -> Option<u8>
+        ensures { leaving result self.new.rest.now ≡ digit_of self.old.rest.now }
+    {
+        self.tab()?;
+        digits::digit_value(self.byte()?)
+    }
+
+    #[tactic(auto, unfolding(crate::specs::Field::mark_of))]
+    pub fn mark(&mut self) -> Option<bool>
+        ensures { leaving result self.new.rest.now ≡ mark_of self.old.rest.now }
+    {
+        match self.digit()? {
+            0 => Some(false),
+            1 => Some(true),
+            _ => None,
+        }
+    }
+
+    // The digits that are next, as many as there are.
+    fn run(&mut self) -> usize
+        ensures { (result, self.new.rest.now) ≡ run_of self.old.rest.now }
+    {
+        let mut number = 0;
+        while let Some((&b, rest)) = self.rest.split_first() {
+            let Some(digit) = digits::digit_value(b) else {
+                break;
+            };
+            number = capped(number * 10 + usize::from(digit));
+            self.rest = rest;
+        }
+        number
+    }
+
+    // A record number begins with 1 to 9.
+    #[tactic(auto, unfolding(crate::specs::Field::record_of))]
+    pub fn record(&mut self) -> Option<usize>
+        ensures { leaving result self.new.rest.now ≡ record_of self.old.rest.now }
+    {
+        self.tab()?;
+        match self.rest.first()? {
+            b'1'..=b'9' => Some(self.run()),
+            _ => None,
+        }
+    }
+
+    // No field is left.
+    pub fn end(&self) -> Option<()>
+        ensures { result ≡ end_of self.now.rest.now }
+    {
+        self.rest.is_empty().then_some(())
+    }
 }

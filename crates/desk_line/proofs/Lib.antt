@@ -1,3 +1,3 @@
--- The laws that the proofs of the functions share, and what is proved of the definitions.
-pub mod FirstByte
+-- What is proved of the definitions.
+pub mod Long
 pub mod Grammar

@@ -32,12 +32,10 @@ pub record SaysQuery (line : List ℕ) (a b depth : ℕ) : Type 0 where
   pub digit : depth < 10
   pub text : line ≡ 88 ∷ tabbed (first.digits ∷ second.digits ∷ (decimal_digit depth ∷ []) ∷ [])
 
--- a malformed line is one that says nothing
 unfoldable pub Form : List ℕ → Line → Type 0
 Form line (says.Segment x1 y1 x2 y2) = SaysSegment line x1 y1 x2 y2
 Form line (says.Arc e) = SaysArc line e
 Form line (says.Query a b depth) = SaysQuery line a b depth
-Form line says.Malformed = ⊥
 
 pub record Says (line : List ℕ) (l : Line) : Type 0 where
   pub short : length line ≤ 256

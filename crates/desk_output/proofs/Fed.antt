@@ -8,6 +8,7 @@ use borrow.Author.Tests.{lt-ltb, le-ltb}
 use lib.Dec.{eqb}
 use lib.ListN.{length}
 use lib.Seq.{append_snoc}
+use Rattle.std.specs.Prelude.{Option}
 use Rattle.desk_line.specs.declared.Line.{Line}
 use Rattle.desk_line.specs.Read.{read_line}
 use Rattle.desk.specs.declared.Table.{Table}
@@ -92,7 +93,7 @@ ended_hand : (t : Table) (n : ℕ) (hand : List ℕ) → n < largest
     ≡ record { printed = (shown t n (read_line hand)).bytes; reading = record { table = table_after t (read_line hand); number = n + 1; line = [] } }
 ended_hand t n hand h = same (read_kept hand) (following-plain n h)
   where
-    same : {l l' : Line} {m m' : ℕ} → l ≡ l' → m ≡ m'
+    same : {l l' : Option Line} {m m' : ℕ} → l ≡ l' → m ≡ m'
         → ◌≡◌ {A = Fed} (record { printed = (shown t n l).bytes; reading = record { table = table_after t l; number = m; line = [] } })
         (record { printed = (shown t n l').bytes; reading = record { table = table_after t l'; number = m'; line = [] } })
     same d e = cc

@@ -7,7 +7,7 @@ use native.Mathlib.Omega.{arith}
 use lib.ListN.{length}
 use lib.Seq.{length-take-le}
 use Rattle.desk_line.specs.Read.{read_line}
-use Rattle.desk_line.proofs.FirstByte.{read_long}
+use Rattle.desk_line.proofs.Long.{read_long}
 use Rattle.desk_lines.specs.Hand.{most, kept}
 use Rattle.desk_lines.proofs.Kept.{kept_whole}
 

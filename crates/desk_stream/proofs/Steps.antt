@@ -9,6 +9,7 @@ use lib.Dec.{ltb}
 use lib.ListN.{length, take, drop, length-take}
 use lib.Seq.{take-append_seam}
 use lib.Ieee.{Float}
+use Rattle.std.specs.Prelude.{Option}
 use Rattle.rooms.proofs.Laws.{over-length}
 use Rattle.desk_lines.specs.declared.Taken.{Taken}
 use Rattle.desk_lines.specs.Hand.{most, before, ends, hand_of, Takes}
@@ -24,7 +25,7 @@ use Rattle.desk_output.specs.Reading.{following}
 use Rattle.desk_stream.specs.Step.{After, Finished, stepped, finished}
 
 -- the desk's answer, the room and the buffer being long enough
-long_answered : (t : Table) (n : ℕ) (l : Line) (room : List Float) (out : List ℕ) → room_need ≤ length room → out_need ≤ length out
+long_answered : (t : Table) (n : ℕ) (l : Option Line) (room : List Float) (out : List ℕ) → room_need ≤ length room → out_need ≤ length out
     → answer t n l room out ≡ done (table_after t l) (shown t n l) room out
 unfolding answer
 long_answered t n l room out wide long = rw (le-ltb (length room) room_need wide, le-ltb (length out) out_need long) refl
@@ -45,7 +46,7 @@ module _ (s : Stream) (piece : List ℕ) (from : ℕ) (line : List ℕ) (room : 
       let few : length hand ≤ length line = omega (arith, length-take most (take s.kept line ++ before bytes)) in
       rw (takes.hand.buffer, over-length hand line few, takes.hand.count) few
 
-  pub step-answered : r.whole ≡ true → room_need ≤ length room → out_need ≤ length out → (l : Line) → l ≡ read_line (take r.kept line') → (n : ℕ) → n ≡ following s.number
+  pub step-answered : r.whole ≡ true → room_need ≤ length room → out_need ≤ length out → (l : Option Line) → l ≡ read_line (take r.kept line') → (n : ℕ) → n ≡ following s.number
       → (a : Answered) (room' : List Float) (out' : List ℕ) → ◌≡◌ {A = Desk} (record { answered = a; room = room'; out = out' }) (answer s.table s.number l room out)
       → ◌≡◌ {A = After}
       (record { step = record { stream = record { table = a.table; number = n; kept = 0 }; read = r.read; printed = a.printed }; line = line'; room = room'; out = out' })
@@ -55,7 +56,7 @@ module _ (s : Stream) (piece : List ℕ) (from : ℕ) (line : List ℕ) (room : 
       let some : ends bytes ≡ true = sym takes.whole ∙ h in
       let says : l ≡ read_line hand = reads ∙ ap read_line hand_kept in
       let told : ◌≡◌ {A = Desk} (record { answered = a; room = room'; out = out' }) (done (table_after s.table (read_line hand)) (shown s.table s.number (read_line hand)) room out) =
-      desk ∙ long_answered s.table s.number l room out wide long ∙ ap (λ (x : Line). done (table_after s.table x) (shown s.table s.number x) room out) says in
+      desk ∙ long_answered s.table s.number l room out wide long ∙ ap (λ (x : Option Line). done (table_after s.table x) (shown s.table s.number x) room out) says in
       rw some
       (same (ap (λ (x : Desk). x.answered.table) told) counts takes.read (ap (λ (x : Desk). x.answered.printed) told) takes.hand.buffer
       (ap (λ (x : Desk). x.room) told) (ap (λ (x : Desk). x.out) told))
@@ -85,7 +86,7 @@ module _ (s : Stream) (line : List ℕ) (room : List Float) (out : List ℕ) (k 
       few : (k : ℕ) → k ≡ min s.kept most → min k (length line) ≡ k
       few k e = omega arith
 
-  pub finish_answered : ltb 0 k ≡ true → room_need ≤ length room → out_need ≤ length out → (l : Line) → l ≡ read_line (take k line)
+  pub finish_answered : ltb 0 k ≡ true → room_need ≤ length room → out_need ≤ length out → (l : Option Line) → l ≡ read_line (take k line)
       → (a : Answered) (room' : List Float) (out' : List ℕ) → ◌≡◌ {A = Desk} (record { answered = a; room = room'; out = out' }) (answer s.table s.number l room out)
       → ◌≡◌ {A = Finished} (record { printed = a.printed; room = room'; out = out' }) (finished s line room out)
   unfolding finished
@@ -93,7 +94,7 @@ module _ (s : Stream) (line : List ℕ) (room : List Float) (out : List ℕ) (k 
       let hand = take s.kept line in
       let says : l ≡ read_line hand = reads ∙ ap read_line (take-least s.kept k line full least) in
       let told : ◌≡◌ {A = Desk} (record { answered = a; room = room'; out = out' }) (done (table_after s.table (read_line hand)) (shown s.table s.number (read_line hand)) room out) =
-      desk ∙ long_answered s.table s.number l room out wide long ∙ ap (λ (x : Line). done (table_after s.table x) (shown s.table s.number x) room out) says in
+      desk ∙ long_answered s.table s.number l room out wide long ∙ ap (λ (x : Option Line). done (table_after s.table x) (shown s.table s.number x) room out) says in
       rw (ap (ltb 0) hand_length ∙ h)
       (ap {B = Finished} (λ (x : Desk). record { printed = x.answered.printed; room = x.room; out = x.out }) told)
 

@@ -48,7 +48,7 @@ fn next_number(number: u64) -> u64
 }
 
 // The line at hand: the first n bytes of its buffer.
-fn read_line(line: &[u8], n: usize) -> Line
+fn read_line(line: &[u8], n: usize) -> Option<Line>
     requires { n ≤ length line.now }
     ensures { result ≡ read_line (take n line.now) }
 {

@@ -1,4 +1,4 @@
 -- What is proved of the definitions in specs/.
 pub mod Spliced
 pub mod Digits
-pub mod HexValue
+pub mod Values

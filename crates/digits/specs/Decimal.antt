@@ -1,5 +1,5 @@
 -- 01, 'The program arcdesk and its lines': record numbers are "decimal without leading zeros", "counts and line numbers are decimal".
-use Rattle.std.specs.Prelude.{ℕ, zero as nought, suc, ◌+◌, ◌/◌, ◌%◌, cond, List, [], ◌∷◌, ◌++◌, ltb}
+use Rattle.std.specs.Prelude.{ℕ, zero as nought, suc, ◌+◌, ◌-◌, ◌/◌, ◌%◌, cond, List, [], ◌∷◌, ◌++◌, leb, ltb, ◌&&◌, Option, Some, None}
 
 -- of a value below 10
 abbrev pub decimal_digit : ℕ → ℕ
@@ -13,3 +13,7 @@ decimals (suc k) n = cond (ltb n 10) (decimal_digit n ∷ []) (decimals k (n / 1
 -- a number of 64 bits has at most 20
 abbrev pub decimal : ℕ → List ℕ
 decimal n = decimals 20 n
+
+-- the value of a byte as a digit; none of a byte that is no digit
+abbrev pub digit_value : ℕ → Option ℕ
+digit_value b = cond (leb 48 b && leb b 57) (Some (b - 48)) None

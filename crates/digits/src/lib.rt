@@ -3,7 +3,7 @@
 
 ghost use Rattle.std.specs.Prelude.{◌≡◌, ◌+◌, ◌<◌, ◌≤◌, length};
 ghost use Rattle.digits.specs.Hex.{hex_digit, hex, hex_value};
-ghost use Rattle.digits.specs.Decimal.{decimal};
+ghost use Rattle.digits.specs.Decimal.{decimal, digit_value};
 ghost use Rattle.digits.specs.Spliced.{Put};
 
 fn hex_digit(v: u64) -> u8
@@ -60,21 +60,22 @@ pub fn put_decimal(out: &mut [u8], at: usize, n: u64) -> usize
     at + digits
 }
 
-// The value of a lower-case hex digit; 16 of any other byte.
-pub fn hex_value(b: u64) -> u64
+// The value of a decimal digit.
+pub fn digit_value(b: u8) -> Option<u8>
+    ensures { result ≡ digit_value b }
+{
+    match b {
+        b'0'..=b'9' => Some(b - b'0'),
+        _ => None,
+    }
+}
+
+// The value of a hex digit. `char::to_digit` takes upper case too.
+pub fn hex_value(b: u8) -> Option<u8>
     ensures { result ≡ hex_value b }
 {
-    if b < 48 {
-        return 16;
+    match b {
+        b'a'..=b'f' => Some(b - b'a' + 10),
+        _ => digit_value(b),
     }
-    if b < 58 {
-        return b - 48;
-    }
-    if b < 97 {
-        return 16;
-    }
-    if b < 103 {
-        return b - 87;
-    }
-    16
 }

@@ -44,7 +44,7 @@ struct Tally {
 fn hex_digit(b: u8) -> u64
     ensures { result < 16 }
 {
-    digits::hex_value(b as u64) % 16
+    u64::from(digits::hex_value(b).unwrap_or(0))
 }
 
 // The 16 hex digits from index `from` on.

@@ -27,19 +27,15 @@ fn spoiled(r: Reader) -> Reader {
     }
 }
 
-// One digit more, of a value below 16.
-fn with_digit(r: Reader, value: u64) -> Reader {
-    if 16 <= value {
-        return spoiled(r);
-    }
-    if 16 <= r.digits {
-        return spoiled(r);
-    }
-    Reader {
-        len: r.len,
-        word: r.word % 0x1000_0000_0000_0000 * 16 + value,
-        digits: r.digits + 1,
-        bad: r.bad,
+// One digit more.
+fn with_digit(r: Reader, b: u8) -> Reader {
+    match digits::hex_value(b) {
+        Some(value) if r.digits < 16 => Reader {
+            word: r.word % 0x1000_0000_0000_0000 * 16 + u64::from(value),
+            digits: r.digits + 1,
+            ..r
+        },
+        _ => spoiled(r),
     }
 }
 
@@ -61,15 +57,11 @@ pub fn end_word(r: Reader, words: &mut [u64; 128]) -> Reader {
     spoiled(r)
 }
 
-fn wide(b: u8) -> u64 {
-    b as u64
-}
-
 pub fn with_byte(r: Reader, b: u8, words: &mut [u64; 128]) -> Reader {
     if b == b'\t' {
         return end_word(r, words);
     }
-    with_digit(r, digits::hex_value(wide(b)))
+    with_digit(r, b)
 }
 
 // Whether bytes have come since the start.

@@ -15,8 +15,8 @@ keep-requires c =
     let z = c.args in
     (enough_all z.room.now z.out.now c.if-room-out.false).1
 
-pub keep-requires-in-Arc : goal.keep-requires-in-Arc
-keep-requires-in-Arc c =
+pub keep-requires-in-Some-Arc : goal.keep-requires-in-Some-Arc
+keep-requires-in-Some-Arc c =
     let z = c.args in
     (enough_all z.room.now z.out.now c.if-room-out.false).1
 
@@ -30,24 +30,24 @@ refused_line-printed-requires c =
     let z = c.args in
     omega (arith, (enough_all z.room.now z.out.now c.if-room-out.false).1)
 
-pub returns-in-Segment : goal.returns-in-Segment
+pub returns-in-Some-Segment : goal.returns-in-Some-Segment
 unfolding shown table_after
-returns-in-Segment c =
+returns-in-Some-Segment c =
     let z = c.args in
-    rw c.in-Segment.is (kept-answered z.table z.number z.room.now z.out.now c.if-room-out.false _ _ _ _ _ refl refl c.keep.ensures refl)
+    rw (c.in-Some-Segment.is, rw c.in-Some-Segment.is at c.in-Some-Segment.field-0-is) (kept-answered z.table z.number z.room.now z.out.now c.if-room-out.false _ _ _ _ _ refl refl c.keep.ensures refl)
 
-pub returns-in-Arc : goal.returns-in-Arc
+pub returns-in-Some-Arc : goal.returns-in-Some-Arc
 unfolding shown table_after
-returns-in-Arc c =
+returns-in-Some-Arc c =
     let z = c.args in
-    rw c.in-Arc.is (kept-answered z.table z.number z.room.now z.out.now c.if-room-out.false _ _ _ _ _ refl refl c.keep-in-Arc.ensures refl)
+    rw (c.in-Some-Arc.is, rw c.in-Some-Arc.is at c.in-Some-Arc.field-0-is) (kept-answered z.table z.number z.room.now z.out.now c.if-room-out.false _ _ _ _ _ refl refl c.keep-in-Some-Arc.ensures refl)
 
-pub returns-in-Query : goal.returns-in-Query
-returns-in-Query c =
+pub returns-in-Some-Query : goal.returns-in-Some-Query
+returns-in-Some-Query c =
     let z = c.args in
-    rw c.in-Query.is (query-answered z.table z.number z.room.now z.out.now c.if-room-out.false _ _ _ _ _ _ refl refl c.query-printed.ensures)
+    rw (c.in-Some-Query.is, rw c.in-Some-Query.is at c.in-Some-Query.field-0-is) (query-answered z.table z.number z.room.now z.out.now c.if-room-out.false _ _ _ _ _ _ refl refl c.query-printed.ensures)
 
-pub returns-in-Malformed : goal.returns-in-Malformed
-returns-in-Malformed c =
+pub returns-in-None : goal.returns-in-None
+returns-in-None c =
     let z = c.args in
-    rw c.in-Malformed.is (malformed_answered z.table z.number z.room.now z.out.now c.if-room-out.false _ _ _ refl refl c.refused_line-printed.ensures refl)
+    rw c.in-None.is (malformed_answered z.table z.number z.room.now z.out.now c.if-room-out.false _ _ _ refl refl c.refused_line-printed.ensures refl)
