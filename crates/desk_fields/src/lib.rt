@@ -37,6 +37,7 @@ impl<'a> Fields<'a> {
     }
 
     // The number whose 16 hex digits are next.
+    #[tactic(auto, using(crate::proofs::Steps::bits_more), unfolding(crate::specs::Field::bits_after))]
     fn bits(&mut self) -> Option<u64>
         ensures { leaving result self.new.rest.now ≡ bits_of self.old.rest.now }
     {
@@ -75,6 +76,7 @@ impl<'a> Fields<'a> {
     }
 
     // The digits that are next, as many as there are.
+    #[tactic(auto, unfolding(crate::specs::Field::run_after))]
     fn run(&mut self) -> usize
         ensures { (result, self.new.rest.now) ≡ run_of self.old.rest.now }
     {
