@@ -1,15 +1,6 @@
 // The fields of a line, read one by one off what is left of it.
 #![tactic(auto)]
 
-ghost use Rattle.std.specs.Prelude.{◌≡◌};
-ghost use Rattle.desk_fields.specs.Text.{capped};
-
-fn capped(n: usize) -> usize
-    ensures { result ≡ capped n }
-{
-    n.min(65)
-}
-
 // What is left of a line. Each field stands behind a tab. Where a field is not there, what is left then is not said.
 #[derive(Clone, Copy)]
 pub struct Fields<'a> {
@@ -17,6 +8,7 @@ pub struct Fields<'a> {
 }
 
 impl<'a> Fields<'a> {
+    ghost use Rattle.std.specs.Prelude.{◌≡◌};
     ghost use Rattle.desk_fields.specs.Field.{leaving, byte_of, tab_of, bits_of, number_of, digit_of, mark_of, run_of, record_of, end_of};
 
     pub fn byte(&mut self) -> Option<u8>
@@ -75,7 +67,7 @@ impl<'a> Fields<'a> {
         }
     }
 
-    // The digits that are next, as many as there are.
+    // The number whose digits are next, however many. All numbers above 64 are 65.
     #[tactic(auto, unfolding(crate::specs::Field::run_after))]
     fn run(&mut self) -> usize
         ensures { (result, self.new.rest.now) ≡ run_of self.old.rest.now }
@@ -85,7 +77,7 @@ impl<'a> Fields<'a> {
             let Some(digit) = digits::digit_value(b) else {
                 break;
             };
-            number = capped(number * 10 + usize::from(digit));
+            number = (number * 10 + usize::from(digit)).min(65);
             self.rest = rest;
         }
         number
