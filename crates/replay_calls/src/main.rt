@@ -10,145 +10,80 @@ mod by_arc;
 mod by_numbers;
 mod crossings;
 
-ghost use Rattle.std.specs.Prelude.{◌≤◌, ◌+◌};
-
-use replay_rows::rows::Reader;
-use replay_rows::tally::Row;
-use replay_rows::words::UNWRITTEN_BITS;
-use replay_rows::{rows, tally, words};
+use replay_rows::rows;
+use replay_rows::rows::Line;
+use replay_rows::sample::Sample;
+use replay_rows::tally::{Row, Tally};
 use std::io;
 use std::io::{Read, Stdin};
 
-// The row at hand, how many rows could not be read, and whether more bytes may come.
-#[derive(Clone, Copy)]
-struct State {
-    row: Reader,
-    unread: u64,
-    more: bool,
-}
-
-// The inputs of a row stand after its first six words, then the refusal, how many outputs there are, and these.
-fn held(words: &[u64; 128], inputs: usize, outputs: usize) -> Row
-    requires { inputs + 8 + outputs ≤ 128 }
-{
-    let mut told = [UNWRITTEN_BITS; 128];
-    let refusal = asked::answer(words, &mut told);
-    if words::agrees(words, inputs, outputs, refusal, &told) {
-        return Row::Same;
-    }
-    Row::Differs
-}
-
-// A row is read where it has as many words as it says.
-fn read(words: &[u64; 128], len: usize) -> Row {
-    let inputs = asked::arity(words[0]);
-    if inputs == 0 {
-        return Row::Unread;
-    }
-    if len < inputs + 8 {
-        return Row::Unread;
-    }
-    if 128 < len {
-        return Row::Unread;
-    }
-    let outputs = len - inputs - 8;
-    if words[5] != inputs as u64 {
-        return Row::Unread;
-    }
-    if words[inputs + 7] != outputs as u64 {
-        return Row::Unread;
-    }
-    held(words, inputs, outputs)
-}
-
-fn whole(row: Reader, words: &[u64; 128]) -> Row {
-    if row.bad {
-        return Row::Unread;
-    }
-    read(words, row.len)
-}
-
-fn step(
-    s: State,
-    b: u8,
-    words: &mut [u64; 128],
-    asked: &mut [u64; 26],
-    differ: &mut [u64; 26],
-) -> State {
-    let row = s.row;
-    if b == b'\n' {
-        let ended = rows::end_word(row, words);
-        let unread = tally::counted(whole(ended, words), words[0], s.unread, asked, differ);
-        return State {
-            row: rows::start(),
-            unread,
-            more: true,
-        };
-    }
-    State {
-        row: rows::with_byte(row, b, words),
-        unread: s.unread,
-        more: true,
+fn held(sample: &Sample) -> Row {
+    if sample.agrees(&asked::answer(sample)) {
+        Row::Same(sample.call)
+    } else {
+        Row::Differs(sample.call)
     }
 }
 
-fn piece(
-    s: State,
-    bytes: &[u8],
-    words: &mut [u64; 128],
-    asked: &mut [u64; 26],
-    differ: &mut [u64; 26],
-) -> State {
-    let mut t = s;
-    t.more = false;
-    for b in bytes {
-        t = step(t, *b, words, asked, differ);
+// Nothing where the line is no row.
+fn read(line: &[u8]) -> Option<Row> {
+    let words = rows::words(line)?;
+    let sample = Sample::read(words.as_slice())?;
+    Some(held(&sample))
+}
+
+// The line at hand, as far as it has come, and the rows so far.
+#[derive(Drop)]
+struct Replay {
+    line: Line,
+    tally: Tally,
+}
+
+impl Replay {
+    fn end_line(&mut self) {
+        self.tally
+            .add(read(self.line.as_slice()).unwrap_or(Row::Unread));
+        self.line.clear();
     }
-    t
-}
 
-fn read_piece(
-    input: &mut Stdin,
-    s: State,
-    words: &mut [u64; 128],
-    asked: &mut [u64; 26],
-    differ: &mut [u64; 26],
-) -> io::Result<State> {
-    let mut buffer = [0u8; 65536];
-    let n = input.read(&mut buffer)?;
-    Ok(piece(s, &buffer[..n], words, asked, differ))
-}
-
-// A proved loop has to end, and nothing says that the input does. So the turns are counted, up to a number that no run reaches.
-fn read_all(input: &mut Stdin, asked: &mut [u64; 26], differ: &mut [u64; 26]) -> io::Result<State> {
-    let mut words = [0u64; 128];
-    let mut s = State {
-        row: rows::start(),
-        unread: 0,
-        more: true,
-    };
-    for _ in 0..u64::MAX {
-        if !s.more {
-            break;
+    fn take(&mut self, b: u8) {
+        if b == b'\n' {
+            self.end_line();
+        } else {
+            let _ = self.line.try_push(b);
         }
-        s = read_piece(input, s, &mut words, asked, differ)?;
     }
-    Ok(s)
-}
 
-// A row without its newline may be cut, and is not read.
-fn unread(s: State) -> u64 {
-    let row = s.row;
-    if rows::begun(row) {
-        return tally::one_more(s.unread);
+    // A proved loop has to end, and nothing says that the input does. So the turns are counted, up to a number that no run reaches.
+    fn take_all(&mut self, input: &mut Stdin) -> io::Result<()> {
+        let mut buffer = [0u8; 65536];
+        for _ in 0..u64::MAX {
+            let n = input.read(&mut buffer)?;
+            if n == 0 {
+                break;
+            }
+            for b in &buffer[..n] {
+                self.take(*b);
+            }
+        }
+        Ok(())
     }
-    s.unread
+
+    // A row without its newline may be cut, and is not read.
+    fn end(&mut self) {
+        if !self.line.is_empty() {
+            self.tally.add(Row::Unread);
+        }
+    }
 }
 
 fn main(rt: HostRuntime) -> io::Result<()> {
     let mut input = rt.stdin();
-    let mut asked = [0u64; 26];
-    let mut differ = [0u64; 26];
-    let s = read_all(&mut input, &mut asked, &mut differ)?;
-    tally::print_all(rt.stdout(), &asked, &differ, unread(s))
+    let mut replay = Replay {
+        line: Line::new(),
+        tally: Tally::default(),
+    };
+    replay.take_all(&mut input)?;
+    replay.end();
+    replay.tally.print(rt.stdout())
 }

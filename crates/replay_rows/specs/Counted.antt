@@ -1,35 +1,33 @@
 -- How a row is counted: once among the rows of its call and of all, where it could be read; and once more where the answer differs.
-use Rattle.std.specs.Prelude.{ℕ, ◌+◌, ◌≡◌, cond, List, ltb, get_or, set}
+use Rattle.std.specs.Prelude.{ℕ, ◌≡◌, List, Bool, true, false, slice_index_or, slice_set}
+use Rattle.replay_rows.specs.Count.{one_more, with_row}
+use Rattle.replay_rows.specs.Number.{number_of}
+use Rattle.replay_rows.specs.declared.tally.Count.{Count}
 use Rattle.replay_rows.specs.declared.tally.Row.{Row}
 use Rattle.replay_rows.specs.declared.tally.Row.TheVariants as row
+use Rattle.replay_rows.specs.declared.tally.Tally.{Tally}
 
--- the largest count stays
-abbrev pub one_more : ℕ → ℕ
-one_more n = cond (ltb n 0xffffffffffffffff) (n + 1) n
+abbrev pub none : Count
+none = record { rows = 0; differ = 0 }
 
-abbrev pub raised : List ℕ → ℕ → List ℕ
-raised counts i = set counts i (one_more (get_or counts i 0))
+abbrev pub raised : List Count → ℕ → Bool → List Count
+raised counts i same = slice_set counts i (with_row (slice_index_or counts i none) same)
 
 -- one more of the call, and of all, which stand at 0
-abbrev pub counted : List ℕ → ℕ → List ℕ
-counted counts call = cond (ltb call 26) (raised (raised counts 0) call) (raised counts 0)
+abbrev pub counted : List Count → ℕ → Bool → List Count
+counted counts call same = raised (raised counts 0 same) call same
 
 abbrev pub unread_after : Row → ℕ → ℕ
 unread_after row.Unread unread = one_more unread
-unread_after row.Same unread = unread
-unread_after row.Differs unread = unread
+unread_after (row.Same _) unread = unread
+unread_after (row.Differs _) unread = unread
 
-abbrev pub rows_after : Row → ℕ → List ℕ → List ℕ
-rows_after row.Unread call rows = rows
-rows_after row.Same call rows = counted rows call
-rows_after row.Differs call rows = counted rows call
+abbrev pub counts_after : Row → List Count → List Count
+counts_after row.Unread counts = counts
+counts_after (row.Same call) counts = counted counts (number_of call) true
+counts_after (row.Differs call) counts = counted counts (number_of call) false
 
-abbrev pub differ_after : Row → ℕ → List ℕ → List ℕ
-differ_after row.Unread call differ = differ
-differ_after row.Same call differ = differ
-differ_after row.Differs call differ = counted differ call
-
--- THE COUNTING: the unread rows and both lists after a row, by those before it
-abbrev pub Counts : Row → ℕ → ℕ → List ℕ → List ℕ → ℕ → List ℕ → List ℕ → Type 0
-Counts row call unread rows differ unread' rows' differ' =
-    (unread' ≡ unread_after row unread) × (rows' ≡ rows_after row call rows) × (differ' ≡ differ_after row call differ)
+-- THE COUNTING: the unread rows and the counts after a row, by those before it
+pub record Counts (row : Row) (before after : Tally) : Type 0 where
+  pub unread : after.unread ≡ unread_after row before.unread
+  pub counts : after.counts ≡ counts_after row before.counts

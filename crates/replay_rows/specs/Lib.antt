@@ -1,3 +1,5 @@
 -- What the contracts of the crate cite.
 pub mod Agree
+pub mod Count
 pub mod Counted
+pub mod Number

@@ -2,7 +2,9 @@
 // bench/src/bin/samples.rs says the form of a row.
 #![tactic(auto)]
 
+pub mod answer;
+pub mod call;
 pub mod lent;
 pub mod rows;
+pub mod sample;
 pub mod tally;
-pub mod words;

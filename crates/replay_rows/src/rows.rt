@@ -1,76 +1,26 @@
-// The words of a row as its bytes come: whole numbers in hex digits, parted by one tab.
+// The words of a row: whole numbers in hex digits, parted by one tab.
+use arrayvec::ArrayVec;
 
-// How many words are whole, and of the word at hand its value so far and how many digits it has.
-#[derive(Clone, Copy)]
-pub struct Reader {
-    pub len: usize,
-    pub word: u64,
-    pub digits: u64,
-    pub bad: bool,
+// The bytes of a row as they come. A row has at most 128 words of 16 digits and the tabs between them, a byte less than fits: what a longer line has past it is dropped,
+// since it can be no row.
+pub type Line = ArrayVec<u8, 2176>;
+
+pub type Words = ArrayVec<u64, 128>;
+
+fn word(digits: &[u8]) -> Option<u64> {
+    if digits.is_empty() || 16 < digits.len() {
+        return None;
+    }
+    digits
+        .iter()
+        .try_fold(0, |word, b| Some(word << 4 | u64::from(digits::hex_value(*b)?)))
 }
 
-pub fn start() -> Reader {
-    Reader {
-        len: 0,
-        word: 0,
-        digits: 0,
-        bad: false,
+// Nothing where some word cannot be read, or there are too many.
+pub fn words(line: &[u8]) -> Option<Words> {
+    let mut words = ArrayVec::new();
+    for digits in line.split(|b| *b == b'\t') {
+        words.try_push(word(digits)?).ok()?;
     }
-}
-
-fn spoiled(r: Reader) -> Reader {
-    Reader {
-        len: r.len,
-        word: 0,
-        digits: r.digits,
-        bad: true,
-    }
-}
-
-// One digit more.
-fn with_digit(r: Reader, b: u8) -> Reader {
-    match digits::hex_value(b) {
-        Some(value) if r.digits < 16 => Reader {
-            word: r.word % 0x1000_0000_0000_0000 * 16 + u64::from(value),
-            digits: r.digits + 1,
-            ..r
-        },
-        _ => spoiled(r),
-    }
-}
-
-// The word at hand is whole.
-pub fn end_word(r: Reader, words: &mut [u64; 128]) -> Reader {
-    let at = r.len;
-    if r.digits == 0 {
-        return spoiled(r);
-    }
-    if at < 128 {
-        words[at] = r.word;
-        return Reader {
-            len: at + 1,
-            word: 0,
-            digits: 0,
-            bad: r.bad,
-        };
-    }
-    spoiled(r)
-}
-
-pub fn with_byte(r: Reader, b: u8, words: &mut [u64; 128]) -> Reader {
-    if b == b'\t' {
-        return end_word(r, words);
-    }
-    with_digit(r, b)
-}
-
-// Whether bytes have come since the start.
-pub fn begun(r: Reader) -> bool {
-    if r.bad {
-        return true;
-    }
-    if 0 < r.digits {
-        return true;
-    }
-    0 < r.len
+    Some(words)
 }

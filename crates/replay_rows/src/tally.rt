@@ -1,133 +1,111 @@
 // How many rows there were of each call and of all, and how many of them the library answers otherwise.
 ghost use Rattle.std.specs.Prelude.{◌≡◌};
-ghost use Rattle.replay_rows.specs.Counted.{one_more, counted, Counts};
+ghost use Rattle.replay_rows.specs.Counted.{Counts, counted};
+ghost use Rattle.replay_rows.specs.Number.{number_of};
 
-use std::io;
+use crate::call::Call;
 use std::io::Stdout;
+use std::{fmt, io};
 
-#[derive(Clone, Copy)]
+// How many rows, and how many of them differ. The largest number stays.
+#[derive(Clone, Copy, Debug, Default, PartialEq, Eq)]
+pub struct Count {
+    pub rows: u64,
+    pub differ: u64,
+}
+
+impl Count {
+    ghost use Rattle.replay_rows.specs.Count.{with_row};
+
+    // One row more, which is the same or differs.
+    pub fn add(&mut self, same: bool)
+        ensures { self.new ≡ with_row self.old same }
+    {
+        self.rows = self.rows.saturating_add(1);
+        if !same {
+            self.differ = self.differ.saturating_add(1);
+        }
+    }
+}
+
+impl fmt::Display for Count {
+    fn fmt<W: fmt::Write>(&self, f: &mut fmt::Formatter<W>) -> fmt::Result {
+        write!(f, "{} rows, {} differ", self.rows, self.differ)
+    }
+}
+
+// What became of a row.
+#[derive(Clone, Copy, Debug, PartialEq, Eq)]
 pub enum Row {
     Unread,
-    Same,
-    Differs,
+    Same(Call),
+    Differs(Call),
 }
 
-pub fn one_more(n: u64) -> u64
-    ensures { result ≡ one_more n }
-{
-    if n < 0xffff_ffff_ffff_ffff {
-        return n + 1;
+// The counts of the calls stand at their numbers, that of all at 0.
+#[derive(Clone, Copy, Debug, Default, PartialEq, Eq)]
+pub struct Tally {
+    pub counts: [Count; 26],
+    pub unread: u64,
+}
+
+impl Tally {
+    fn count(&mut self, call: Call, same: bool)
+        ensures counts { self.new.counts ≡ counted self.old.counts (number_of call) same }
+        ensures unread { self.new.unread ≡ self.old.unread }
+    {
+        self.counts[0].add(same);
+        self.counts[call.number()].add(same);
     }
-    n
-}
 
-// One more of the call and of all, which stand at 0.
-fn count(counts: &mut [u64; 26], call: u64)
-    ensures { counts.new ≡ counted counts.old call }
-{
-    counts[0] = one_more(counts[0]);
-    if call < 26 {
-        let at = call as usize;
-        counts[at] = one_more(counts[at]);
-    }
-}
-
-// Gives how many rows could not be read, with this one.
-pub fn counted(
-    row: Row,
-    call: u64,
-    unread: u64,
-    rows: &mut [u64; 26],
-    differ: &mut [u64; 26],
-) -> u64
-    ensures { Counts row call unread rows.old differ.old result rows.new differ.new }
-{
-    match row {
-        Row::Unread => one_more(unread),
-        Row::Same => {
-            count(rows, call);
-            unread
-        }
-        Row::Differs => {
-            count(rows, call);
-            count(differ, call);
-            unread
+    pub fn add(&mut self, row: Row)
+        ensures { Counts row self.old self.new }
+    {
+        match row {
+            Row::Unread => self.unread = self.unread.saturating_add(1),
+            Row::Same(call) => self.count(call, true),
+            Row::Differs(call) => self.count(call, false),
         }
     }
-}
 
-// The bytes that a name takes in the list below: as many for each, so that the counts stand in a column.
-const NAME: usize = 24;
-
-// The name i of a list.
-fn print_part(output: Stdout, names: &[u8], i: usize) -> io::Result<()> {
-    if i < names.len() / NAME {
-        let from = i * NAME;
-        let to = from + NAME;
-        return output.write_all(&names[from..to]);
+    // Stops at the first write that fails.
+    pub fn print(&self, output: Stdout) -> io::Result<()> {
+        for (name, count) in NAMES.iter().zip(&self.counts).skip(1) {
+            println!(output; "{name:24}{count}")?;
+        }
+        println!(output;
+            "{:24}{}, {} could not be read",
+            NAMES[0], self.counts[0], self.unread
+        )
     }
-    Ok(())
 }
 
-// The calls have the numbers of the table in bench/src/bin/samples.rs, and all of them 0. One list, since every call that prints makes the check dearer.
-fn print_name(output: Stdout, call: usize) -> io::Result<()> {
-    print_part(
-        output,
-        b"all:                    \
-          ellipse_point:          \
-          ellipse_tangent:        \
-          arc_point_at:           \
-          arc_tangent_at:         \
-          arc_start_pos:          \
-          arc_end_pos:            \
-          norm_tau:               \
-          arc_param_in_span:      \
-          arc_radii:              \
-          arc_theta_of_pos:       \
-          arc_param_at_point:     \
-          point_to_segment_dist:  \
-          project_onto_segment:   \
-          line_line_intersection: \
-          intersect_segments:     \
-          intersect_segment_arc:  \
-          intersect_arcs:         \
-          intersect:              \
-          hit:                    \
-          point_to_arc_dist:      \
-          nearest_arc_param:      \
-          svg_arc_to_center:      \
-          circumscribed_arc:      \
-          circle_tangent_through: \
-          fit_earc_tangent:       ",
-        call,
-    )
-}
-
-fn print_counts(output: Stdout, call: usize, rows: u64, differ: u64) -> io::Result<()> {
-    print_name(output, call)?;
-    print!(output; "{rows} rows, {differ} differ")
-}
-
-fn print_call(output: Stdout, call: usize, rows: u64, differ: u64) -> io::Result<()> {
-    print_counts(output, call, rows, differ)?;
-    println!(output)
-}
-
-fn print_calls(output: Stdout, rows: &[u64; 26], differ: &[u64; 26]) -> io::Result<()> {
-    for call in 1..26usize {
-        print_call(output, call, rows[call], differ[call])?;
-    }
-    Ok(())
-}
-
-// Stops at the first write that fails.
-pub fn print_all(
-    output: Stdout,
-    rows: &[u64; 26],
-    differ: &[u64; 26],
-    unread: u64,
-) -> io::Result<()> {
-    print_calls(output, rows, differ)?;
-    print_counts(output, 0, rows[0], differ[0])?;
-    println!(output; ", {unread} could not be read")
-}
+// At the number of the call, and at 0 the name of all.
+const NAMES: [&str; 26] = [
+    "all:",
+    "ellipse_point:",
+    "ellipse_tangent:",
+    "arc_point_at:",
+    "arc_tangent_at:",
+    "arc_start_pos:",
+    "arc_end_pos:",
+    "norm_tau:",
+    "arc_param_in_span:",
+    "arc_radii:",
+    "arc_theta_of_pos:",
+    "arc_param_at_point:",
+    "point_to_segment_dist:",
+    "project_onto_segment:",
+    "line_line_intersection:",
+    "intersect_segments:",
+    "intersect_segment_arc:",
+    "intersect_arcs:",
+    "intersect:",
+    "hit:",
+    "point_to_arc_dist:",
+    "nearest_arc_param:",
+    "svg_arc_to_center:",
+    "circumscribed_arc:",
+    "circle_tangent_through:",
+    "fit_earc_tangent:",
+];
