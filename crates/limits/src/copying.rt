@@ -7,52 +7,38 @@ use hits::{HIT, Tally};
 use hunt_bracket::{Cell, Fate, Frame};
 use scalar::TAU;
 
-// The counts so far, and the fate of the first bracket.
+// The counts so far, and the fate of the first bracket, where there was one.
 #[derive(Clone, Copy)]
 struct Copying {
     tally: Tally,
-    first: Fate,
+    first: Option<Fate>,
 }
 
-// The first bracket is narrowed; of every later one nothing is worked out.
-fn copied(f: &Frame, c: Cell, s: Copying) -> Fate {
-    if s.tally.brackets == 0 {
-        f.fate(f.narrow(c), &[])
-    } else {
-        s.first
+impl Copying {
+    // One more bracket: a hit goes to the room.
+    fn settle(&mut self, d: Fate, room: &mut [f64]) {
+        let t = self.tally;
+        self.tally.brackets = t.brackets.wrapping_add(1);
+        self.tally.evaluations = t.evaluations.wrapping_add(61);
+        if let Fate::Hit(h) = d
+            && t.hits < room.len() / HIT
+        {
+            hits::put(room, t.hits, h);
+            self.tally.hits = t.hits + 1;
+        }
     }
-}
 
-// One more bracket, with the fate d: a hit goes to the room.
-fn settled(t: Tally, d: Fate, room: &mut [f64]) -> Tally {
-    let mut r = t;
-    r.brackets = t.brackets.wrapping_add(1);
-    r.evaluations = t.evaluations.wrapping_add(61);
-    let n = t.hits;
-    if n < room.len() / HIT {
-        return match d {
-            Fate::Hit(h) => {
-                hits::put(room, n, h);
-                r.hits = n + 1;
-                r
-            }
-            Fate::OutsideA => r,
-            Fate::OutsideB => r,
-            Fate::Double => r,
-        };
+    // The first bracket is narrowed; of every later one nothing is worked out.
+    fn visit(&mut self, f: &Frame, c: Cell, room: &mut [f64]) {
+        if hunt::brackets(c) {
+            let d = match self.first {
+                Some(d) => d,
+                None => f.fate(f.narrow(c), &[]),
+            };
+            self.first = Some(d);
+            self.settle(d, room);
+        }
     }
-    r
-}
-
-fn visit(f: &Frame, c: Cell, s: Copying, room: &mut [f64]) -> Copying {
-    if hunt::brackets(c) {
-        let d = copied(f, c, s);
-        return Copying {
-            tally: settled(s.tally, d, room),
-            first: d,
-        };
-    }
-    s
 }
 
 // The cells of a whole arc at a depth.
@@ -71,7 +57,7 @@ pub fn hunt(a: Arc, b: Arc, depth: u32, room: &mut [f64]) -> Tally
             evaluations: n.wrapping_add(1),
             ..Tally::default()
         },
-        first: Fate::Double,
+        first: None,
     };
     for i in 0..n {
         let next = i + 1;
@@ -84,7 +70,7 @@ pub fn hunt(a: Arc, b: Arc, depth: u32, room: &mut [f64]) -> Tally
             g_hi,
             closes: next == closing,
         };
-        s = visit(f, c, s, room);
+        s.visit(f, c, room);
         lo = hi;
         g_lo = g_hi;
     }
