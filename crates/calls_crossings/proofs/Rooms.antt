@@ -22,8 +22,10 @@ use Rattle.crossing.specs.Circles.{intersect_circle_circle}
 use Rattle.hunt.specs.Cells.{cells}
 use Rattle.hunt.specs.Hunt.{hunted}
 use Rattle.checks.specs.Given.{Given, tested}
-use Rattle.checks.specs.Refusal.{accepted, deepest, deep, unfaulted, refusal_of}
+use Rattle.checks.specs.declared.Refusal.{Refusal}
+use Rattle.checks.specs.Refusal.{accepted, number_of, deepest, deep, unfaulted, refusal_of}
 use Rattle.checks.specs.Answer.{Answer, answered, refused}
+use Rattle.checks.proofs.Outcomes.{number_of_refuses}
 use Rattle.checks.proofs.Tested.{unrefused, not-deep}
 use Rattle.calls_crossings.specs.Crossed.{Crossed}
 use Rattle.calls_crossings.specs.Need.{segments_hits, closed_hits, pair_hits}
@@ -32,14 +34,17 @@ use Rattle.calls_crossings.specs.Pairs.{pair_outcome}
 
 -- ---- a call that is not refused, and one that is
 
-pub crossed-done : (n : ℕ) (hs : List CurveHit) (counts : List ℕ) (before after : List Float) → n ≡ accepted → after ≡ written hs before
+pub crossed_done : (n : ℕ) (hs : List CurveHit) (counts : List ℕ) (before after : List Float) → n ≡ accepted → after ≡ written hs before
     → Crossed n hs counts before (record { refusal = accepted; numbers = []; counts = counts }) after
 unfolding answered
-crossed-done n hs counts before after e r = record { answer = rw e refl; room = rw e r }
+crossed_done n hs counts before after e r = record { answer = rw e refl; room = rw e r }
 
-pub crossed-refused : (n : ℕ) (hs : List CurveHit) (counts : List ℕ) (before : List Float) → (n ≡ accepted → ⊥) → Crossed n hs counts before (refused n) before
+pub crossed_refused : (r : Refusal) (n : ℕ) (hs : List CurveHit) (counts : List ℕ) (before : List Float) → number_of r ≡ n
+    → Crossed n hs counts before (refused (number_of r)) before
 unfolding answered
-crossed-refused n hs counts before h = record { answer = rw (ne_eqb n accepted h) refl; room = rw (ne_eqb n accepted h) refl }
+crossed_refused r n hs counts before e =
+    let other = ne_eqb _ _ (number_of_refuses r) in
+    record { answer = rw (← e, other) refl; room = rw (← e, other) refl }
 
 -- NO SECOND OUTCOME: what is told and the room afterwards are fixed
 pub crossed_unique : (n : ℕ) (hs : List CurveHit) (counts : List ℕ) (before : List Float) (told told' : Answer) (after after' : List Float)

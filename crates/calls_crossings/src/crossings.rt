@@ -1,17 +1,19 @@
 // Crossings (parts 4 to 6): the hits go to the lent room.
+#![tactic(auto, unfolding(checks::specs::Given::tested))]
+
 ghost use Rattle.std.specs.Prelude.{◌≡◌, ◌≤◌, ◌/◌, length};
 ghost use Rattle.hits.specs.Hit.{hit_size, hit_part};
 ghost use Rattle.hits.specs.Listed.{listed};
 ghost use Rattle.hits.specs.Outcome.{closed};
 ghost use Rattle.hits.specs.Holds.{Holds};
-ghost use Rattle.checks.specs.Refusal.{deepest};
+ghost use Rattle.checks.specs.Refusal.{deepest, refusal_told};
 ghost use Rattle.checks.specs.Answer.{found_told, hunted_told};
 ghost use Rattle.calls_crossings.specs.Crossed.{Crosses};
 ghost use Rattle.calls_crossings.specs.Answers.{segments_answer, segment_arc_answer, arcs_answer};
 ghost use Rattle.calls_crossings.specs.Need.{pair_hits};
 ghost use Rattle.calls_crossings.specs.Pairs.{pair_outcome};
 
-use checks::{DEEPEST, Found, Hunted};
+use checks::{DEEPEST, Faults, Refusal};
 use curves::{Arc, Point};
 use hits::{CurveHit, Lengths, Tally, UpToTwo};
 
@@ -20,43 +22,57 @@ pub const SEGMENTS_HITS: usize = 1;
 
 pub const CLOSED_HITS: usize = 2;
 
-pub fn segments_refusal(a1: Point, a2: Point, b1: Point, b2: Point, lent: Lengths) -> u8
-    ensures { result ≡ (segments_answer a1 a2 b1 b2).refusal lent }
+pub fn segments_refusal(
+    a1: Point,
+    a2: Point,
+    b1: Point,
+    b2: Point,
+    lent: Lengths,
+) -> Result<(), Refusal>
+    ensures { refusal_told result ≡ (segments_answer a1 a2 b1 b2).refusal lent }
 {
-    let f = checks::point(
-        checks::point(checks::point(checks::point(checks::none(), a1), a2), b1),
-        b2,
-    );
-    checks::refusal(f, false, hits::short(SEGMENTS_HITS, lent))
+    Faults::none()
+        .point(a1)
+        .point(a2)
+        .point(b1)
+        .point(b2)
+        .refusal(false, hits::short(SEGMENTS_HITS, lent))
 }
 
-pub fn intersect_segments(a1: Point, a2: Point, b1: Point, b2: Point, room: &mut [f64]) -> Found
+pub fn intersect_segments(
+    a1: Point,
+    a2: Point,
+    b1: Point,
+    b2: Point,
+    room: &mut [f64],
+) -> Result<usize, Refusal>
     ensures { Crosses (segments_answer a1 a2 b1 b2) room.old (found_told result) room.new }
 {
-    let no = segments_refusal(a1, a2, b1, b2, Lengths { room: room.len() });
-    if no == 0 {
-        let c = UpToTwo::one(segments::intersect_segments(a1, a2, b1, b2));
-        return Found::Hits(hits::write(room, c));
-    }
-    Found::Refused(no)
+    segments_refusal(a1, a2, b1, b2, Lengths { room: room.len() })?;
+    let c = UpToTwo::one(segments::intersect_segments(a1, a2, b1, b2));
+    Ok(hits::write(room, c))
 }
 
-pub fn segment_arc_refusal(p1: Point, p2: Point, a: Arc, lent: Lengths) -> u8
-    ensures { result ≡ (segment_arc_answer p1 p2 a).refusal lent }
+pub fn segment_arc_refusal(p1: Point, p2: Point, a: Arc, lent: Lengths) -> Result<(), Refusal>
+    ensures { refusal_told result ≡ (segment_arc_answer p1 p2 a).refusal lent }
 {
-    let f = checks::arc(checks::point(checks::point(checks::none(), p1), p2), a);
-    checks::refusal(f, false, hits::short(CLOSED_HITS, lent))
+    Faults::none()
+        .point(p1)
+        .point(p2)
+        .arc(a)
+        .refusal(false, hits::short(CLOSED_HITS, lent))
 }
 
-pub fn intersect_segment_arc(p1: Point, p2: Point, a: Arc, room: &mut [f64]) -> Found
+pub fn intersect_segment_arc(
+    p1: Point,
+    p2: Point,
+    a: Arc,
+    room: &mut [f64],
+) -> Result<usize, Refusal>
     ensures { Crosses (segment_arc_answer p1 p2 a) room.old (found_told result) room.new }
 {
-    let no = segment_arc_refusal(p1, p2, a, Lengths { room: room.len() });
-    if no == 0 {
-        let c = crossing::intersect_segment_arc(p1, p2, a);
-        return Found::Hits(hits::write(room, c));
-    }
-    Found::Refused(no)
+    segment_arc_refusal(p1, p2, a, Lengths { room: room.len() })?;
+    Ok(hits::write(room, crossing::intersect_segment_arc(p1, p2, a)))
 }
 
 // The closed form's crossings, as a hunt's counts with nothing sampled.
@@ -64,14 +80,9 @@ pub fn closed(c: UpToTwo<CurveHit>, room: &mut [f64]) -> Tally
     requires { length (listed c) ≤ length room.old / hit_size }
     ensures { Holds (closed (listed c)) room.old result room.new }
 {
-    let n = hits::write(room, c);
     Tally {
-        hits: n,
-        brackets: 0,
-        outside_a: 0,
-        outside_b: 0,
-        doubles: 0,
-        evaluations: 0,
+        hits: hits::write(room, c),
+        ..Tally::default()
     }
 }
 
@@ -99,22 +110,21 @@ pub fn pair(a: Arc, b: Arc, depth: u32, room: &mut [f64]) -> Tally
     closed(crossing::intersect_circle_circle(a, b), room)
 }
 
-pub fn arcs_refusal(a: Arc, b: Arc, depth: u32, lent: Lengths) -> u8
-    ensures { result ≡ (arcs_answer a b depth).refusal lent }
+pub fn arcs_refusal(a: Arc, b: Arc, depth: u32, lent: Lengths) -> Result<(), Refusal>
+    ensures { refusal_told result ≡ (arcs_answer a b depth).refusal lent }
 {
-    let f = checks::arc(checks::arc(checks::none(), a), b);
     let short = hits::short(pair_hits(a, b, depth), lent);
-    checks::refusal(f, checks::deep(depth), short)
+    Faults::none()
+        .arc(a)
+        .arc(b)
+        .refusal(checks::deep(depth), short)
 }
 
-pub fn intersect_arcs(a: Arc, b: Arc, depth: u32, room: &mut [f64]) -> Hunted
+pub fn intersect_arcs(a: Arc, b: Arc, depth: u32, room: &mut [f64]) -> Result<Tally, Refusal>
     ensures { Crosses (arcs_answer a b depth) room.old (hunted_told result) room.new }
 {
-    let no = arcs_refusal(a, b, depth, Lengths { room: room.len() });
-    if no == 0 {
-        return Hunted::Counts(pair(a, b, depth, room));
-    }
-    Hunted::Refused(no)
+    arcs_refusal(a, b, depth, Lengths { room: room.len() })?;
+    Ok(pair(a, b, depth, room))
 }
 
 // The numbers of the hit i of so many, as that part of the room.

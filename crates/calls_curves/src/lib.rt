@@ -5,13 +5,13 @@ ghost use Rattle.std.specs.Prelude.{◌≡◌, ◌≤◌, ◌/◌, length};
 ghost use Rattle.curves.specs.At.{at};
 ghost use Rattle.hits.specs.Hit.{hit_size};
 ghost use Rattle.hits.specs.Holds.{Holds};
-ghost use Rattle.checks.specs.Refusal.{deepest};
+ghost use Rattle.checks.specs.Refusal.{deepest, refusal_told};
 ghost use Rattle.checks.specs.Answer.{hunted_told};
 ghost use Rattle.calls_crossings.specs.Crossed.{Crosses};
 ghost use Rattle.calls_curves.specs.Curves.{curves_hits, curves_outcome, curves_answer};
 
 use calls_crossings::{CLOSED_HITS, SEGMENTS_HITS};
-use checks::Hunted;
+use checks::{Faults, Refusal};
 use curves::{Curve, Point};
 use hits::{Lengths, Tally, UpToTwo};
 
@@ -71,21 +71,20 @@ fn cross(a: Curve, b: Curve, depth: u32, room: &mut [f64]) -> Tally
 }
 
 // The depth is tested for every pair.
-pub fn intersect_refusal(a: Curve, b: Curve, depth: u32, lent: Lengths) -> u8
-    ensures { result ≡ (curves_answer a b depth).refusal lent }
+pub fn intersect_refusal(a: Curve, b: Curve, depth: u32, lent: Lengths) -> Result<(), Refusal>
+    ensures { refusal_told result ≡ (curves_answer a b depth).refusal lent }
 {
-    let f = checks::curve(checks::curve(checks::none(), a), b);
     let short = hits::short(curves_hits(a, b, depth), lent);
-    checks::refusal(f, checks::deep(depth), short)
+    Faults::none()
+        .curve(a)
+        .curve(b)
+        .refusal(checks::deep(depth), short)
 }
 
 // The crossings of two curves.
-pub fn intersect(a: Curve, b: Curve, depth: u32, room: &mut [f64]) -> Hunted
+pub fn intersect(a: Curve, b: Curve, depth: u32, room: &mut [f64]) -> Result<Tally, Refusal>
     ensures { Crosses (curves_answer a b depth) room.old (hunted_told result) room.new }
 {
-    let no = intersect_refusal(a, b, depth, Lengths { room: room.len() });
-    if no == 0 {
-        return Hunted::Counts(cross(a, b, depth, room));
-    }
-    Hunted::Refused(no)
+    intersect_refusal(a, b, depth, Lengths { room: room.len() })?;
+    Ok(cross(a, b, depth, room))
 }

@@ -2,3 +2,4 @@
 pub mod Tested
 pub mod Within
 pub mod Outcomes
+pub mod Answered

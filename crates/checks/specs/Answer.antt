@@ -1,15 +1,10 @@
 -- 01, 'Forms': "If an answer is an enum, a definition states this paper's number and values for each of the enum's cases." And: "A refusal returns its number and no other value".
-use Rattle.std.specs.Prelude.{ℕ, cond, List, [], ◌∷◌, eqb, Float}
+use Rattle.std.specs.Prelude.{ℕ, cond, List, [], ◌∷◌, eqb, Float, Result, Ok, Err}
+use Rattle.curves.specs.declared.Point.{Point}
+use Rattle.curves.specs.declared.Radii.{Radii}
 use Rattle.hits.specs.declared.Tally.{Tally}
-use Rattle.checks.specs.Refusal.{accepted}
-use Rattle.checks.specs.declared.Number.{Number}
-use Rattle.checks.specs.declared.Number.TheVariants as one
-use Rattle.checks.specs.declared.Pair.{Pair}
-use Rattle.checks.specs.declared.Pair.TheVariants as two
-use Rattle.checks.specs.declared.Found.{Found}
-use Rattle.checks.specs.declared.Found.TheVariants as found
-use Rattle.checks.specs.declared.Hunted.{Hunted}
-use Rattle.checks.specs.declared.Hunted.TheVariants as hunted
+use Rattle.checks.specs.declared.Refusal.{Refusal}
+use Rattle.checks.specs.Refusal.{accepted, number_of}
 
 -- the refusal's number, `accepted` for none; the numbers given back; the counts
 pub record Answer : Type 0 where
@@ -28,23 +23,36 @@ withheld n told = cond (eqb n accepted) told (refused n)
 unfoldable pub answered : ℕ → List Float → List ℕ → Answer
 answered n numbers counts = withheld n (record { refusal = accepted; numbers = numbers; counts = counts })
 
--- ---- what each enum's cases say
-abbrev pub number_told : Number → Answer
-number_told (one.Is x) = record { refusal = accepted; numbers = x ∷ []; counts = [] }
-number_told (one.Refused n) = refused n
+-- what a call tells, by what its values say
+abbrev pub told : {A : Type 0} → (A → Answer) → Result A Refusal → Answer
+told says (Ok x) = says x
+told says (Err r) = refused (number_of r)
 
-abbrev pub pair_told : Pair → Answer
-pair_told (two.Are x y) = record { refusal = accepted; numbers = x ∷ y ∷ []; counts = [] }
-pair_told (two.Refused n) = refused n
+-- ---- what each answer says
+abbrev pub values : List Float → Answer
+values xs = record { refusal = accepted; numbers = xs; counts = [] }
 
-abbrev pub found_told : Found → Answer
-found_told (found.Hits k) = record { refusal = accepted; numbers = []; counts = k ∷ [] }
-found_told (found.Refused n) = refused n
+abbrev pub number_told : Result Float Refusal → Answer
+number_told = told (λ x. values (x ∷ []))
+
+-- a position or a direction
+abbrev pub pair_told : Result Point Refusal → Answer
+pair_told = told (λ p. values (p.x ∷ p.y ∷ []))
+
+abbrev pub radii_told : Result Radii Refusal → Answer
+radii_told = told (λ r. values (r.a ∷ r.b ∷ []))
+
+abbrev pub counted : List ℕ → Answer
+counted ns = record { refusal = accepted; numbers = []; counts = ns }
+
+-- how many hits were written to the room
+abbrev pub found_told : Result ℕ Refusal → Answer
+found_told = told (λ k. counted (k ∷ []))
 
 -- hits, brackets, the three other fates, evaluations
 abbrev pub tally_counts : Tally → List ℕ
 tally_counts t = t.hits ∷ t.brackets ∷ t.outside_a ∷ t.outside_b ∷ t.doubles ∷ t.evaluations ∷ []
 
-abbrev pub hunted_told : Hunted → Answer
-hunted_told (hunted.Counts t) = record { refusal = accepted; numbers = []; counts = tally_counts t }
-hunted_told (hunted.Refused n) = refused n
+-- what the hunt counted; all but the hits are 0 where nothing is sampled
+abbrev pub hunted_told : Result Tally Refusal → Answer
+hunted_told = told (λ t. counted (tally_counts t))

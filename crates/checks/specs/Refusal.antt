@@ -2,8 +2,10 @@
 -- query line)", 4 "the lent room is shorter than the need", 5 "the Rust answers `None` in arc conversion, three-point arc, tangent circle or conic fit", 6 "`arc_param_in_span` answers
 -- `None`", and of `arcdesk` 7 "malformed line", 8 "record number not in the table", 9 "a 65th record". "A call tests 1 over all its numbers (not those already in the lent room), then
 -- 2, 3, 4, then the rest."
-use Rattle.std.specs.Prelude.{ℕ, Bool, false, cond, List, eqb, ltb}
+use Rattle.std.specs.Prelude.{ℕ, Bool, false, cond, List, eqb, ltb, Result, Ok, Err, ⊤}
 use Rattle.checks.specs.declared.Faults.{Faults}
+use Rattle.checks.specs.declared.Refusal.{Refusal}
+use Rattle.checks.specs.declared.Refusal.TheVariants.{NotANumber, BeyondLimit, TooDeep, RoomTooShort, Degenerate, OutsideSpan, MalformedLine, NoSuchRecord, TableFull}
 use Rattle.checks.specs.Given.{Given, tested}
 
 -- ---- the names of the numbers; `accepted` is none of them
@@ -36,6 +38,22 @@ no_such_record = 8
 
 abbrev pub table_full : ℕ
 table_full = 9
+
+-- ---- what the code's names stand for
+abbrev pub number_of : Refusal → ℕ
+number_of NotANumber = not_a_number
+number_of BeyondLimit = beyond_limit
+number_of TooDeep = too_deep
+number_of RoomTooShort = room_too_short
+number_of Degenerate = degenerate
+number_of OutsideSpan = outside_span
+number_of MalformedLine = malformed_line
+number_of NoSuchRecord = no_such_record
+number_of TableFull = table_full
+
+abbrev pub refusal_told : Result ⊤ Refusal → ℕ
+refusal_told (Ok _) = accepted
+refusal_told (Err r) = number_of r
 
 -- ---- "depth above 3"
 abbrev pub deepest : ℕ

@@ -1,4 +1,6 @@
 // What C's numbers stand for.
+#![tactic(auto, unfolding(crate::specs::Lent::lent_number, crate::specs::Lent::lent_arc, crate::specs::Lent::lent_curve))]
+
 ghost use Rattle.std.specs.Prelude.{◌≡◌};
 ghost use Rattle.export_numbers.specs.Lent.{lent_number, lent_arc, lent_curve};
 
@@ -8,10 +10,10 @@ use curves::{Arc, Curve, Point};
 pub fn number(numbers: &[f64], i: usize) -> f64
     ensures { result ≡ lent_number numbers.now i }
 {
-    if i < numbers.len() {
-        return numbers[i];
-    }
-    scalar::not_a_number()
+    numbers
+        .get(i)
+        .copied()
+        .unwrap_or(scalar::not_a_number())
 }
 
 pub fn arc(numbers: &[f64], marks: u32) -> Arc

@@ -1,20 +1,67 @@
-// What the library answers, as numbers in a lent slice: one function an answer.
-ghost use Rattle.std.specs.Prelude.{◌≡◌, ◌≤◌, length};
-ghost use Rattle.rooms.specs.Laid.{over};
-ghost use Rattle.checks.specs.Answer.{number_told, pair_told};
-ghost use Rattle.export_numbers.specs.Exported.{short, with_room, NumbersOut, NumbersWritten};
+// What the library answers, as numbers in a lent slice.
+#![tactic(auto, unfolding(crate::specs::Exported::floats))]
 
-use checks::{Number, Pair, ROOM_TOO_SHORT};
+ghost use Rattle.std.specs.Prelude.{◌≡◌, refl, ◌≤◌, [], ◌∷◌, ◌++◌, length};
+ghost use Rattle.rooms.specs.Laid.{over};
+ghost use Rattle.checks.specs.Refusal.{accepted, number_of};
+ghost use Rattle.checks.specs.Answer.{Answer, told, values};
+ghost use Rattle.export_numbers.specs.Exported.{short, with_room, floats, NumbersOut, NumbersWritten};
+
+ghost use Rattle.std.proofs.Common.{rules};
+
+use checks::Refusal;
+use curves::{Point, Radii};
 
 // The refusal of a room that is too short, as an export gives it.
-pub const SHORT: u32 = ROOM_TOO_SHORT as u32;
+pub const SHORT: u32 = Refusal::RoomTooShort as u32;
 
-pub fn place(numbers: &[f64], out: &mut [f64])
-    requires { length numbers.now ≤ length out.old }
-    ensures { out.new ≡ over numbers.now out.old }
-{
-    for i in 0..numbers.len() {
-        out[i] = numbers[i];
+// What a call gives back, as the numbers that C reads.
+pub trait Numbers<const N: usize> {
+    ghost says: { Self → Answer };
+
+    fn numbers(self) -> [f64; N]
+        ensures values { result ≡ (says self).numbers ++ floats (says self).counts }
+        ensures count { length result ≡ N };
+
+    ghost accepts: { (x : Self) → (says x).refusal ≡ accepted };
+
+    // An array of them fits into memory.
+    ghost few: { N ≤ 8 };
+}
+
+impl Numbers<1> for f64 {
+    ghost says = { λ x. values (x ∷ []) };
+
+    ghost accepts = { λ x. refl };
+
+    ghost few = { Prim.search rules };
+
+    fn numbers(self) -> [f64; 1] {
+        [self]
+    }
+}
+
+impl Numbers<2> for Point {
+    ghost says = { λ p. values (p.x ∷ p.y ∷ []) };
+
+    ghost accepts = { λ p. refl };
+
+    ghost few = { Prim.search rules };
+
+    fn numbers(self) -> [f64; 2] {
+        [self.x, self.y]
+    }
+}
+
+impl Numbers<2> for Radii {
+    ghost says = { λ r. values (r.a ∷ r.b ∷ []) };
+
+    ghost accepts = { λ r. refl };
+
+    ghost few = { Prim.search rules };
+
+    fn numbers(self) -> [f64; 2] {
+        [self.a, self.b]
     }
 }
 
@@ -29,33 +76,30 @@ pub fn write(numbers: &[f64], out: &mut [f64]) -> u32
     0
 }
 
-// The library's refusal where there is room for so many numbers; else the room's in its place, as 01's order has it.
-pub fn refuse(no: u32, need: usize, room: usize) -> u32
-    ensures { result ≡ with_room no (short need room) }
+pub fn place(numbers: &[f64], out: &mut [f64])
+    requires { length numbers.now ≤ length out.old }
+    ensures { out.new ≡ over numbers.now out.old }
 {
-    if (0 < no) & (no < SHORT) {
+    out[..numbers.len()].copy_from_slice(numbers);
+}
+
+// The library's refusal where there is room for so many numbers; else the room's in its place, as 01's order has it.
+pub fn refuse(r: Refusal, need: usize, room: usize) -> u32
+    ensures { result ≡ with_room (number_of r) (short need room) }
+{
+    let no = u32::from(r);
+    if (no < SHORT) | (need <= room) {
         return no;
     }
-    if room < need {
-        return SHORT;
-    }
-    no
+    SHORT
 }
 
-pub fn write_number(n: Number, out: &mut [f64]) -> u32
-    ensures { NumbersOut 1 (number_told n) out.old result out.new }
+// What a call answers, to the head of `out`.
+pub fn write_answer<const N: usize, T: Numbers<N>>(answer: Result<T, Refusal>, out: &mut [f64]) -> u32
+    ensures { NumbersOut N (told T.says answer) out.old result out.new }
 {
-    match n {
-        Number::Is(x) => write(&[x], out),
-        Number::Refused(no) => refuse(no as u32, 1, out.len()),
-    }
-}
-
-pub fn write_pair(p: Pair, out: &mut [f64]) -> u32
-    ensures { NumbersOut 2 (pair_told p) out.old result out.new }
-{
-    match p {
-        Pair::Are(x, y) => write(&[x, y], out),
-        Pair::Refused(no) => refuse(no as u32, 2, out.len()),
+    match answer {
+        Ok(x) => write(&x.numbers(), out),
+        Err(r) => refuse(r, N, out.len()),
     }
 }

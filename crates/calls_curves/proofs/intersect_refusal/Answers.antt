@@ -8,5 +8,5 @@ use Rattle.calls_curves.proofs.intersect_refusal.Goals as goal
 pub returns : goal.returns
 returns c =
     let a = c.args in
-    rw (c.refusal.ensures, c.deep.ensures, c.short-short.ensures, c.curve-f.ensures, c.curve.ensures, c.none.ensures, tested-append)
+    rw (c.refusal.ensures, c.deep.ensures, c.short-short.ensures, c.curve-2.ensures, c.curve.ensures, c.none.ensures, tested-append)
     (refusal_room _ a.depth _ _ (λ h. ap (λ (n : ℕ). short n a.lent) (c.curves_hits.ensures h)))

@@ -10,5 +10,5 @@ pub returns : goal.returns
 unfolding tested
 returns c =
     let a = c.args in
-    rw (c.refusal.ensures, c.deep.ensures, c.short-short.ensures, c.arc-f.ensures, c.arc.ensures, c.none.ensures)
+    rw (c.refusal.ensures, c.deep.ensures, c.short-short.ensures, c.arc-2.ensures, c.arc.ensures, c.none.ensures)
     (refusal_room _ a.depth _ _ (λ h. ap (λ (n : ℕ). short n a.lent) (c.pair_hits.ensures h)))

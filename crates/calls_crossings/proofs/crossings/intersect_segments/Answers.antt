@@ -1,18 +1,16 @@
 -- `calls_crossings::crossings::intersect_segments` meets its contract.
-use mathlib.Core.Path.{refl, sym, ◌∙◌}
-use Rattle.calls_crossings.proofs.Rooms.{crossed-done, crossed-refused, room_fits, one-fits}
+use mathlib.Core.Path.{refl, sym}
+use Rattle.checks.proofs.Answered.{told_refused}
+use Rattle.calls_crossings.proofs.Rooms.{crossed_done, crossed_refused, room_fits, one-fits}
 use Rattle.calls_crossings.proofs.crossings.intersect_segments.Goals as goal
 
-pub write-requires : goal.write-requires
-write-requires c =
-    let none = sym c.segments_refusal-no.ensures ∙ c.if-no-eq0.true in
-    rw c.one-c.ensures (one-fits c.intersect_segments.result _ (room_fits _ _ _ none))
+pub returns-in_err-segments_refusal : goal.returns-in_err-segments_refusal
+returns-in_err-segments_refusal c = rw (told_refused _ _ _ c.from_residual.ensures.1) (crossed_refused _ _ _ _ _ c.in_err-segments_refusal.ensures)
 
-pub returns-then-no-eq0 : goal.returns-then-no-eq0
-returns-then-no-eq0 c =
-    let none = sym c.segments_refusal-no.ensures ∙ c.if-no-eq0.true in
-    rw (c.write.ensures.0, c.write.ensures.1, c.one-c.ensures, c.intersect_segments.ensures)
-    (crossed-done _ _ _ _ _ none refl)
+pub write-requires : goal.write-requires
+write-requires c = rw c.one-c.ensures (one-fits c.intersect_segments.result _ (room_fits _ _ _ (sym c.in_ok-segments_refusal.ensures)))
 
 pub returns : goal.returns
-returns c = rw (← c.segments_refusal-no.ensures) (crossed-refused _ _ _ _ c.if-no-eq0.false)
+returns c =
+    rw (c.write.ensures.0, c.write.ensures.1, c.one-c.ensures, c.intersect_segments.ensures)
+    (crossed_done _ _ _ _ _ (sym c.in_ok-segments_refusal.ensures) refl)
