@@ -16,14 +16,11 @@ pub use calls_points::{
     norm_tau, point_to_segment_dist, project_onto_segment,
 };
 pub use calls_shapes::{
-    Center, Distance, FittedArc, Tangent, Through, circle_tangent_through, circumscribed_arc,
-    fit_earc_tangent, nearest_arc_param, point_to_arc_dist, svg_arc_to_center,
+    circle_tangent_through, circumscribed_arc, fit_earc_tangent, nearest_arc_param,
+    point_to_arc_dist, svg_arc_to_center,
 };
-pub use checks::{
-    BEYOND_LIMIT, DEEPEST, DEGENERATE, Found, Hunted, NOT_A_NUMBER, Number, OUTSIDE_SPAN, Pair,
-    ROOM_TOO_SHORT, TOO_DEEP,
-};
-pub use curves::{Arc, Curve, Point};
+pub use checks::{DEEPEST, Refusal};
+pub use curves::{Arc, Curve, Point, Radii};
 pub use hits::{HIT, Lengths, Tally};
 pub use root::sqrt;
 pub use scalar::{FRAC_PI_2, PI, TAU, abs, clamp, max, min};

@@ -1,101 +1,153 @@
-// What the calls of parts 7 to 9 answer: what a layer found, or a refusal. specs/Shape.antt says the number and the values of each case.
-#![tactic(auto)]
+// What the calls answer, as numbers. specs/Shape.antt says the number and the values of each answer.
+#![tactic(auto, unfolding(crate::specs::Floats::floats))]
 
-ghost use Rattle.std.specs.Prelude.{◌≡◌};
-ghost use Rattle.checks.specs.Answer.{withheld};
-ghost use Rattle.calls_answers.specs.Shape.{near_told, distance_told, conversion_told, center_told, three_point_told, through_told, tangent_circle_told, tangent_told, fit_told, fitted_told};
+ghost use Rattle.std.specs.Prelude.{◌≡◌, ◌≤◌, [], ◌∷◌, ◌++◌, length, pos, refl};
+ghost use Rattle.std.specs.Float.{binary64};
+ghost use Rattle.std.specs.Float.Ieee.{of_int};
+ghost use Rattle.std.proofs.Common.{rules};
+ghost use Rattle.checks.specs.Refusal.{accepted};
+ghost use Rattle.checks.specs.Answer.{Answer, values};
+ghost use Rattle.calls_answers.specs.Floats.{floats};
+ghost use Rattle.calls_answers.specs.Shape.{mark, near_told, converted_told, circumscribed_told, circle_told, ellipse_told};
 
-use checks::DEGENERATE;
+use curves::{Point, Radii};
 use shapes::{Circle, Circumscribed, Converted, Fitted, Near};
 
-// A distance and the point of the curve that has it.
-#[derive(Clone, Copy)]
-pub enum Distance {
-    Is(Near),
-    Refused(u8),
+// What a call gives back, as the numbers that C reads.
+pub trait Numbers<const N: usize> {
+    ghost says: { Self → Answer };
+
+    fn numbers(self) -> [f64; N]
+        ensures values { result ≡ (says self).numbers ++ floats (says self).counts }
+        ensures count { length result ≡ N };
+
+    ghost accepts: { (x : Self) → (says x).refusal ≡ accepted };
+
+    // An array of them fits into memory.
+    ghost few: { N ≤ 8 };
 }
 
-// An SVG arc about its center.
-#[derive(Clone, Copy)]
-pub enum Center {
-    Is(Converted),
-    Refused(u8),
-}
+impl Numbers<1> for f64 {
+    ghost says = { λ x. values (x ∷ []) };
 
-// The arc through three points.
-#[derive(Clone, Copy)]
-pub enum Through {
-    Is(Circumscribed),
-    Refused(u8),
-}
+    ghost accepts = { λ x. refl };
 
-// The circle with a tangent.
-#[derive(Clone, Copy)]
-pub enum Tangent {
-    Is(Circle),
-    Refused(u8),
-}
+    ghost few = { Prim.search rules };
 
-// The arc of an ellipse that fits.
-#[derive(Clone, Copy)]
-pub enum FittedArc {
-    Is(Fitted),
-    Refused(u8),
-}
-
-pub fn as_distance(no: u8, n: Near) -> Distance
-    ensures { distance_told result ≡ withheld no (near_told n) }
-{
-    if no == 0 {
-        return Distance::Is(n);
+    fn numbers(self) -> [f64; 1] {
+        [self]
     }
-    Distance::Refused(no)
 }
 
-pub fn as_center(no: u8, c: Option<Converted>) -> Center
-    ensures { center_told result ≡ withheld no (conversion_told c) }
-{
-    if no == 0 {
-        return match c {
-            Some(v) => Center::Is(v),
-            None => Center::Refused(DEGENERATE),
-        };
+impl Numbers<2> for Point {
+    ghost says = { λ p. values (p.x ∷ p.y ∷ []) };
+
+    ghost accepts = { λ p. refl };
+
+    ghost few = { Prim.search rules };
+
+    fn numbers(self) -> [f64; 2] {
+        [self.x, self.y]
     }
-    Center::Refused(no)
 }
 
-pub fn as_through(no: u8, c: Option<Circumscribed>) -> Through
-    ensures { through_told result ≡ withheld no (three_point_told c) }
-{
-    if no == 0 {
-        return match c {
-            Some(v) => Through::Is(v),
-            None => Through::Refused(DEGENERATE),
-        };
+impl Numbers<2> for Radii {
+    ghost says = { λ r. values (r.a ∷ r.b ∷ []) };
+
+    ghost accepts = { λ r. refl };
+
+    ghost few = { Prim.search rules };
+
+    fn numbers(self) -> [f64; 2] {
+        [self.a, self.b]
     }
-    Through::Refused(no)
 }
 
-pub fn as_tangent(no: u8, c: Option<Circle>) -> Tangent
-    ensures { tangent_told result ≡ withheld no (tangent_circle_told c) }
+fn mark(b: bool) -> f64
+    ensures { result ≡ of_int binary64 (pos (mark b)) }
 {
-    if no == 0 {
-        return match c {
-            Some(v) => Tangent::Is(v),
-            None => Tangent::Refused(DEGENERATE),
-        };
-    }
-    Tangent::Refused(no)
+    f64::from(u8::from(b))
 }
 
-pub fn as_fitted(no: u8, c: Option<Fitted>) -> FittedArc
-    ensures { fitted_told result ≡ withheld no (fit_told c) }
-{
-    if no == 0 {
-        return match c {
-            Some(v) => FittedArc::Is(v),
-            None => FittedArc::Refused(DEGENERATE),
-        };
+impl Numbers<3> for Near {
+    ghost says = { near_told };
+
+    ghost accepts = { λ n. refl };
+
+    ghost few = { Prim.search rules };
+
+    fn numbers(self) -> [f64; 3] {
+        [self.dist, self.pos.x, self.pos.y]
     }
-    FittedArc::Refused(no)
+}
+
+impl Numbers<6> for Converted {
+    ghost says = { converted_told };
+
+    ghost accepts = { λ c. refl };
+
+    ghost few = { Prim.search rules };
+
+    fn numbers(self) -> [f64; 6] {
+        [
+            self.center.x,
+            self.center.y,
+            self.start,
+            self.end,
+            self.rx,
+            self.ry,
+        ]
+    }
+}
+
+impl Numbers<6> for Circumscribed {
+    ghost says = { circumscribed_told };
+
+    ghost accepts = { λ c. refl };
+
+    ghost few = { Prim.search rules };
+
+    fn numbers(self) -> [f64; 6] {
+        [
+            self.center.x,
+            self.center.y,
+            self.radius,
+            self.start,
+            self.end,
+            mark(self.ccw),
+        ]
+    }
+}
+
+impl Numbers<3> for Circle {
+    ghost says = { circle_told };
+
+    ghost accepts = { λ c. refl };
+
+    ghost few = { Prim.search rules };
+
+    fn numbers(self) -> [f64; 3] {
+        [self.center.x, self.center.y, self.radius]
+    }
+}
+
+impl Numbers<8> for Fitted {
+    ghost says = { ellipse_told };
+
+    ghost accepts = { λ f. refl };
+
+    ghost few = { Prim.search rules };
+
+    fn numbers(self) -> [f64; 8] {
+        [
+            self.center.x,
+            self.center.y,
+            self.rx,
+            self.ry,
+            self.rotation,
+            self.start,
+            self.end,
+            mark(self.ccw),
+        ]
+    }
 }

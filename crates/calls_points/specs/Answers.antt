@@ -9,9 +9,8 @@ use Rattle.arc.specs.Frame.{arc_radii, arc_theta_of_pos, arc_param_at_point}
 use Rattle.segments.specs.Project.{point_to_segment_dist, project_onto_segment}
 use Rattle.segments.specs.Lines.{line_line_intersection}
 use Rattle.checks.specs.Given.{Given, coordinate, angle, point, arc_numbers}
-use Rattle.checks.specs.Refusal.{numbers_refusal, or_later}
-use Rattle.checks.specs.Answer.{Answer, answered}
-use Rattle.calls_points.specs.InSpan.{span_refusal, span_number}
+use Rattle.checks.specs.Refusal.{numbers_refusal, outside_span}
+use Rattle.checks.specs.Answer.{Answer, answered, values, withheld, told_or}
 
 -- a call with neither depth nor room is refused by its numbers alone
 abbrev pub one_number : List Given → Float → Answer
@@ -56,7 +55,7 @@ norm_tau_answer v = one_number (angle v ∷ []) (norm_tau v)
 -- outside the span, after the numbers' own refusals
 unfoldable pub arc_param_in_span_answer : Arc → Float → Answer
 arc_param_in_span_answer a theta =
-    answered (or_later (numbers_refusal (arc_numbers a ++ angle theta ∷ [])) (span_refusal (arc_param_in_span a theta))) (span_number (arc_param_in_span a theta) ∷ []) []
+    withheld (numbers_refusal (arc_numbers a ++ angle theta ∷ [])) (told_or outside_span (λ t. values (t ∷ [])) (arc_param_in_span a theta))
 
 unfoldable pub arc_radii_answer : Arc → Answer
 arc_radii_answer a = answered (numbers_refusal (arc_numbers a)) ((arc_radii a).a ∷ (arc_radii a).b ∷ []) []

@@ -1,3 +1,2 @@
 -- What the contracts of the crate cite beside the layers' definitions.
-pub mod InSpan
 pub mod Answers

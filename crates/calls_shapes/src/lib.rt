@@ -7,4 +7,3 @@ pub use calls::{
     circle_tangent_through, circumscribed_arc, fit_earc_tangent, nearest_arc_param,
     point_to_arc_dist, svg_arc_to_center,
 };
-pub use calls_answers::{Center, Distance, FittedArc, Tangent, Through};

@@ -1,5 +1,5 @@
 -- 01, 'Forms': "If an answer is an enum, a definition states this paper's number and values for each of the enum's cases." And: "A refusal returns its number and no other value".
-use Rattle.std.specs.Prelude.{ℕ, cond, List, [], ◌∷◌, eqb, Float, Result, Ok, Err}
+use Rattle.std.specs.Prelude.{ℕ, cond, List, [], ◌∷◌, eqb, Float, Option, Some, None, Result, Ok, Err}
 use Rattle.curves.specs.declared.Point.{Point}
 use Rattle.curves.specs.declared.Radii.{Radii}
 use Rattle.hits.specs.declared.Tally.{Tally}
@@ -27,6 +27,11 @@ answered n numbers counts = withheld n (record { refusal = accepted; numbers = n
 abbrev pub told : {A : Type 0} → (A → Answer) → Result A Refusal → Answer
 told says (Ok x) = says x
 told says (Err r) = refused (number_of r)
+
+-- what the Rust answers with `Option` tells, where n is the refusal of its `None`
+abbrev pub told_or : {A : Type 0} → ℕ → (A → Answer) → Option A → Answer
+told_or n says (Some x) = says x
+told_or n says None = refused n
 
 -- ---- what each answer says
 abbrev pub values : List Float → Answer

@@ -12,10 +12,11 @@ use Rattle.hits.specs.Need.{short}
 use Rattle.hits.proofs.Needs.{not_short}
 use Rattle.hits.specs.declared.Tally.{Tally}
 use Rattle.hits.specs.Outcome.{tally}
-use Rattle.checks.specs.declared.Hunted.TheVariants.{Counts, Refused}
+use Rattle.std.specs.Prelude.{Ok, Err}
+use Rattle.checks.specs.declared.Refusal.{Refusal}
 use Rattle.checks.specs.Given.{tested}
 use Rattle.checks.specs.declared.Faults.{Faults}
-use Rattle.checks.specs.Refusal.{accepted, deep, refusal, unfaulted}
+use Rattle.checks.specs.Refusal.{accepted, number_of, deep, refusal, unfaulted}
 use Rattle.checks.specs.Answer.{Answer, hunted_told, tally_counts}
 use Rattle.checks.proofs.Tested.{unrefused, not-deep, refusal_room}
 use Rattle.curves.specs.declared.Curve.{Curve}
@@ -45,14 +46,14 @@ module _ (a b : Curve) (depth : ℕ) (room : List Float) (enough : room_need ≤
   abbrev Tells : Answer → List Float → Type 0
   Tells told after = Crossed asked (curves_outcome a b depth).hits (tally_counts (tally (curves_outcome a b depth))) room told after
 
-  pub cross_counted : (u : Tally) (after : List Float) → Tells (hunted_told (Counts u)) after
+  pub cross_counted : (u : Tally) (after : List Float) → Tells (hunted_told (Ok u)) after
       → (pair_refusal a b depth ≡ accepted) × (u ≡ tally (curves_outcome a b depth)) × (after ≡ written (curves_outcome a b depth).hits room) × (length (curves_outcome a b depth).hits ≤ most_hits)
   cross_counted u after x =
       let (none, is, hits) = crossed-counted asked (curves_outcome a b depth).hits (tally (curves_outcome a b depth)) room after u x in
       let passed = unrefused faults (deep depth) too_short none in
       (sym pair_refusal_lem ∙ none, is, hits, hits_most a b depth (not-deep depth passed.shallow))
 
-  pub cross_told : (m : ℕ) (after : List Float) → Tells (hunted_told (Refused m)) after → (pair_refusal a b depth ≡ m) × (eqb (pair_refusal a b depth) accepted ≡ false) × (after ≡ room)
-  cross_told m after x =
-      let (is, some, hits) = crossed-told asked (curves_outcome a b depth).hits (tally (curves_outcome a b depth)) room after m x in
+  pub cross_told : (r : Refusal) (after : List Float) → Tells (hunted_told (Err r)) after → (pair_refusal a b depth ≡ number_of r) × (eqb (pair_refusal a b depth) accepted ≡ false) × (after ≡ room)
+  cross_told r after x =
+      let (is, some, hits) = crossed-told asked (curves_outcome a b depth).hits (tally (curves_outcome a b depth)) room after r x in
       (sym pair_refusal_lem ∙ is, ap (λ (n : ℕ). eqb n accepted) (sym pair_refusal_lem) ∙ some, hits)

@@ -11,7 +11,7 @@ ghost use Rattle.desk.specs.Reply.{crossed, unless};
 ghost use Rattle.desk.specs.Answer.{room_need, out_need, Shows};
 
 use crate::{Table, records};
-use checks::{Hunted, NO_SUCH_RECORD};
+use checks::Refusal;
 use curves::Curve;
 
 // The lines of the hits in the room, numbered from 1.
@@ -35,11 +35,11 @@ fn cross(a: Curve, b: Curve, depth: u32, line: u64, room: &mut [f64], out: &mut 
     ensures { Shows (unless (pair_refusal a b depth) line (crossed line (curves_outcome a b depth))) room.old out.old result room.new out.new }
 {
     match calls_curves::intersect(a, b, depth, room) {
-        Hunted::Counts(t) => {
+        Ok(t) => {
             let at = put_hits(out, line, room, t.hits);
             desk_print::end_line(out, at, line, t)
         }
-        Hunted::Refused(no) => desk_print::refused_line(out, line, no),
+        Err(r) => desk_print::refused_line(out, line, u8::from(r)),
     }
 }
 
@@ -65,5 +65,5 @@ pub fn query(
         let b = records::record_at(table, j);
         return cross(a, b, depth, line, room, out);
     }
-    desk_print::refused_line(out, line, NO_SUCH_RECORD)
+    desk_print::refused_line(out, line, u8::from(Refusal::NoSuchRecord))
 }

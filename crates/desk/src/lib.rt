@@ -8,7 +8,7 @@ ghost use Rattle.desk.specs.Answer.{answer};
 mod crossings;
 mod records;
 
-use checks::MALFORMED_LINE;
+use checks::Refusal;
 use curves::Curve;
 use desk_line::Line;
 use hits::HIT;
@@ -91,7 +91,7 @@ pub fn answer(
             }
         }
         None => {
-            let printed = desk_print::refused_line(out, number, MALFORMED_LINE);
+            let printed = desk_print::refused_line(out, number, u8::from(Refusal::MalformedLine));
             Answered {
                 table,
                 printed,

@@ -1,13 +1,14 @@
 // The records of the table: looked up, tested and taken.
 ghost use Rattle.std.specs.Prelude.{◌≡◌, true, false, ◌<◌, ◌≤◌, length};
 ghost use Rattle.digits.specs.Spliced.{Put};
+ghost use Rattle.checks.specs.Refusal.{refusal_told};
 ghost use Rattle.desk.specs.Table.{most, held, record_at, stored};
 ghost use Rattle.desk.specs.Refused.{record_refusal};
 ghost use Rattle.desk.specs.Reply.{nothing, unless, stays};
 ghost use Rattle.desk.specs.Answer.{out_need};
 
 use crate::{Answered, MOST, Place, Table};
-use checks::TABLE_FULL;
+use checks::{Faults, Refusal};
 use curves::Curve;
 
 pub fn held(count: usize, k: usize) -> bool
@@ -42,13 +43,13 @@ pub fn store(table: Table, c: Curve) -> Table
     next
 }
 
-fn record_refusal(table: Table, c: Curve) -> u8
-    ensures { result ≡ record_refusal table c }
+fn record_refusal(table: Table, c: Curve) -> Result<(), Refusal>
+    ensures { refusal_told result ≡ record_refusal table c }
 {
     if table.count < MOST {
-        return checks::refusal(checks::curve(checks::none(), c), false, false);
+        return Faults::none().curve(c).passed();
     }
-    TABLE_FULL
+    Err(Refusal::TableFull)
 }
 
 // A record: the table with it, or a refusal.
@@ -57,18 +58,19 @@ pub fn keep(table: Table, c: Curve, line: u64, out: &mut [u8]) -> Answered
     ensures { (result.table ≡ stays (record_refusal table c) table (stored table c)) × (result.short ≡ false)
         × Put out.old 0 (unless (record_refusal table c) line nothing).bytes result.printed out.new }
 {
-    let no = record_refusal(table, c);
-    if no == 0 {
-        return Answered {
+    match record_refusal(table, c) {
+        Ok(()) => Answered {
             table: store(table, c),
             printed: 0,
             short: false,
-        };
-    }
-    let printed = desk_print::refused_line(out, line, no);
-    Answered {
-        table,
-        printed,
-        short: false,
+        },
+        Err(r) => {
+            let printed = desk_print::refused_line(out, line, u8::from(r));
+            Answered {
+                table,
+                printed,
+                short: false,
+            }
+        }
     }
 }

@@ -11,7 +11,7 @@ use Rattle.hunt_refine.specs.Held.{StartHeld}
 use Rattle.checks.specs.Refusal.{accepted, or_later}
 use Rattle.checks.proofs.Outcomes.{tallied}
 use Rattle.calls_crossings.specs.Answers.{arcs_answer}
-use Rattle.calls_crossings.proofs.Rooms.{crossed-done}
+use Rattle.calls_crossings.proofs.Rooms.{crossed_done}
 use Rattle.calls_refine.specs.Answered.{Answered}
 use Rattle.calls_refine.specs.NeverLoses.{BothWorked, NeverLoses}
 use Rattle.calls_refine.proofs.NeverLoses.{finer_answer_never_loses}
@@ -27,7 +27,7 @@ none_earlier n later = go (eqb n accepted) refl
 
 export_answered : (a b : Arc) (k : ℕ) {room after : List Float} {lent counts : List ℕ} → HitsOut (arcs_answer a b k) room lent accepted after counts → Answered a b k (tallied counts)
 export_answered a b k {room} {after} {lent} {counts} h =
-    record { before = room; after = after; contract = rw h.counts (crossed-done _ _ _ _ _ (none_earlier _ _ h.refusal) h.hits) }
+    record { before = room; after = after; contract = rw h.counts (crossed_done _ _ _ _ _ (none_earlier _ _ h.refusal) h.hits) }
 
 pub finer_export_never_loses : (a b : Arc) (k k' : ℕ) {room room' after after' : List Float} {lent lent' counts counts' : List ℕ} → a.is_ellipse || b.is_ellipse ≡ true → k ≤ k'
     → HitsOut (arcs_answer a b k) room lent accepted after counts → HitsOut (arcs_answer a b k') room' lent' accepted after' counts'

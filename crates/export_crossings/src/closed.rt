@@ -6,7 +6,6 @@ ghost use Rattle.export_numbers.specs.Lent.{lent_arc};
 ghost use Rattle.export_crossings.specs.Exported.{HitsOut, HitOut};
 
 use crate::counts;
-use checks::ROOM_TOO_SHORT;
 use curves::Point;
 use export_numbers::SHORT;
 use hits::{HIT, Lengths};
@@ -30,12 +29,13 @@ pub fn arcs_intersect_segments(
     let b1 = Point { x: bx1, y: by1 };
     let b2 = Point { x: bx2, y: by2 };
     if counts.len() < 1 {
-        let no = calls_crossings::segments_refusal(a1, a2, b1, b2, Lengths { room: room.len() });
-        return checks::or_later(no, ROOM_TOO_SHORT) as u32;
+        let lent = Lengths { room: room.len() };
+        return counts::short(calls_crossings::segments_refusal(a1, a2, b1, b2, lent));
     }
-    let f = calls_crossings::intersect_segments(a1, a2, b1, b2, room);
-    counts::count_found(f, counts);
-    counts::found_refusal(f)
+    counts::write_counts(
+        calls_crossings::intersect_segments(a1, a2, b1, b2, room),
+        counts,
+    )
 }
 
 pub fn arcs_intersect_segment_arc(
@@ -54,12 +54,13 @@ pub fn arcs_intersect_segment_arc(
     let p2 = Point { x: x2, y: y2 };
     let q = export_numbers::arc(a, a_marks);
     if counts.len() < 1 {
-        let no = calls_crossings::segment_arc_refusal(p1, p2, q, Lengths { room: room.len() });
-        return checks::or_later(no, ROOM_TOO_SHORT) as u32;
+        let lent = Lengths { room: room.len() };
+        return counts::short(calls_crossings::segment_arc_refusal(p1, p2, q, lent));
     }
-    let f = calls_crossings::intersect_segment_arc(p1, p2, q, room);
-    counts::count_found(f, counts);
-    counts::found_refusal(f)
+    counts::write_counts(
+        calls_crossings::intersect_segment_arc(p1, p2, q, room),
+        counts,
+    )
 }
 
 // The numbers of the hit i of so many to `out`, and to `counts` how many they are: 0 where there is no such hit.

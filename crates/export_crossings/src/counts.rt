@@ -1,55 +1,78 @@
 // The answers of the calls with hits: the refusal's number, and the counts to a lent slice.
-ghost use Rattle.std.specs.Prelude.{◌≡◌, ◌≤◌, length};
+ghost use Rattle.std.specs.Prelude.{◌≡◌, ◌≤◌, List, ℕ, [], ◌∷◌, length, refl};
+ghost use Rattle.std.proofs.Common.{rules};
 ghost use Rattle.rooms.specs.Laid.{over};
-ghost use Rattle.checks.specs.Answer.{found_told, hunted_told};
+ghost use Rattle.checks.specs.Refusal.{room_too_short, or_later, refusal_told};
+ghost use Rattle.checks.specs.Answer.{told, counted, tally_counts};
 
-use checks::{Found, Hunted};
+use checks::Refusal;
+use hits::Tally;
 
-pub fn found_refusal(f: Found) -> u32
-    ensures { result ≡ (found_told f).refusal }
-{
-    match f {
-        Found::Hits(_) => 0,
-        Found::Refused(no) => no as u32,
+// What a call counts, as C reads it.
+pub trait Counts<const N: usize> {
+    ghost says: { Self → List ℕ };
+
+    fn counts(self) -> [u64; N]
+        ensures values { result ≡ says self }
+        ensures count { length result ≡ N };
+
+    // An array of them fits into memory.
+    ghost few: { N ≤ 6 };
+}
+
+// How many hits.
+impl Counts<1> for usize {
+    ghost says = { λ n. n ∷ [] };
+
+    ghost few = { Prim.search rules };
+
+    fn counts(self) -> [u64; 1] {
+        [self as u64]
     }
 }
 
-// How many hits, to the first place of `counts`.
-pub fn count_found(f: Found, counts: &mut [u64])
-    requires { 1 ≤ length counts.old }
-    ensures { counts.new ≡ over (found_told f).counts counts.old }
+// The six counts of a hunt.
+impl Counts<6> for Tally {
+    ghost says = { tally_counts };
+
+    ghost few = { Prim.search rules };
+
+    fn counts(self) -> [u64; 6] {
+        [
+            self.hits as u64,
+            self.brackets as u64,
+            self.outside_a as u64,
+            self.outside_b as u64,
+            self.doubles as u64,
+            self.evaluations as u64,
+        ]
+    }
+}
+
+// The counts to the head of `counts`.
+pub fn write_counts<const N: usize, T: Counts<N>>(
+    found: Result<T, Refusal>,
+    counts: &mut [u64],
+) -> u32
+    requires { N ≤ length counts.old }
+    ensures refusal { result ≡ (told (λ x. counted (T.says x)) found).refusal }
+    ensures counts { counts.new ≡ over (told (λ x. counted (T.says x)) found).counts counts.old }
 {
-    match f {
-        Found::Hits(n) => {
-            counts[0] = n as u64;
+    match found {
+        Ok(x) => {
+            export_numbers::place(&x.counts(), counts);
+            0
         }
-        Found::Refused(_) => {}
+        Err(r) => r.into(),
     }
 }
 
-pub fn hunted_refusal(h: Hunted) -> u32
-    ensures { result ≡ (hunted_told h).refusal }
+// The refusal of a call whose counts do not fit: its own, and else the room's.
+pub fn short(asked: Result<(), Refusal>) -> u32
+    ensures { result ≡ or_later (refusal_told asked) room_too_short }
 {
-    match h {
-        Hunted::Counts(_) => 0,
-        Hunted::Refused(no) => no as u32,
-    }
-}
-
-// The six counts of a hunt to the head of `counts`.
-pub fn count_hunted(h: Hunted, counts: &mut [u64])
-    requires { 6 ≤ length counts.old }
-    ensures { counts.new ≡ over (hunted_told h).counts counts.old }
-{
-    match h {
-        Hunted::Counts(t) => {
-            counts[0] = t.hits as u64;
-            counts[1] = t.brackets as u64;
-            counts[2] = t.outside_a as u64;
-            counts[3] = t.outside_b as u64;
-            counts[4] = t.doubles as u64;
-            counts[5] = t.evaluations as u64;
-        }
-        Hunted::Refused(_) => {}
+    match asked {
+        Ok(()) => export_numbers::SHORT,
+        Err(r) => r.into(),
     }
 }

@@ -5,7 +5,6 @@ ghost use Rattle.export_numbers.specs.Lent.{lent_arc, lent_curve};
 ghost use Rattle.export_crossings.specs.Exported.{HitsOut};
 
 use crate::counts;
-use checks::ROOM_TOO_SHORT;
 use hits::Lengths;
 
 // Hits, brackets, the brackets outside a, outside b and double, and the evaluations go to `counts`.
@@ -24,12 +23,10 @@ pub fn arcs_intersect_arcs(
     let p = export_numbers::arc(a, a_marks);
     let q = export_numbers::arc(b, b_marks);
     if counts.len() < 6 {
-        let no = calls_crossings::arcs_refusal(p, q, depth, Lengths { room: room.len() });
-        return checks::or_later(no, ROOM_TOO_SHORT) as u32;
+        let lent = Lengths { room: room.len() };
+        return counts::short(calls_crossings::arcs_refusal(p, q, depth, lent));
     }
-    let h = calls_crossings::intersect_arcs(p, q, depth, room);
-    counts::count_hunted(h, counts);
-    counts::hunted_refusal(h)
+    counts::write_counts(calls_crossings::intersect_arcs(p, q, depth, room), counts)
 }
 
 // The same counts; all but the hits are 0 where nothing is sampled.
@@ -48,10 +45,8 @@ pub fn arcs_intersect(
     let p = export_numbers::curve(a, a_marks);
     let q = export_numbers::curve(b, b_marks);
     if counts.len() < 6 {
-        let no = calls_curves::intersect_refusal(p, q, depth, Lengths { room: room.len() });
-        return checks::or_later(no, ROOM_TOO_SHORT) as u32;
+        let lent = Lengths { room: room.len() };
+        return counts::short(calls_curves::intersect_refusal(p, q, depth, lent));
     }
-    let h = calls_curves::intersect(p, q, depth, room);
-    counts::count_hunted(h, counts);
-    counts::hunted_refusal(h)
+    counts::write_counts(calls_curves::intersect(p, q, depth, room), counts)
 }

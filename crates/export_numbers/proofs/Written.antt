@@ -7,7 +7,8 @@ use lib.Dec.{eqb}
 use lib.ListN.{length}
 use lib.Ieee.{Float}
 use Rattle.checks.specs.Answer.{Answer, refused}
-use Rattle.export_numbers.specs.Exported.{short, with_room, NumbersWritten, NumbersOut, floats}
+use Rattle.calls_answers.specs.Floats.{floats}
+use Rattle.export_numbers.specs.Exported.{short, with_room, NumbersWritten, NumbersOut}
 
 -- all that is told, as numbers
 pub numbers_out : {need number : ℕ} {xs : List Float} (told : Answer) {lent lent' : List Float} → told.refusal ≡ 0 → xs ≡ told.numbers ++ floats told.counts → length xs ≡ need

@@ -5,4 +5,4 @@ mod numbers;
 mod out;
 
 pub use numbers::{arc, curve};
-pub use out::{Numbers, SHORT, place, refuse, write, write_answer};
+pub use out::{SHORT, place, refuse, write, write_answer};

@@ -10,10 +10,7 @@ use curves::{Arc, Curve, Point};
 pub fn number(numbers: &[f64], i: usize) -> f64
     ensures { result ≡ lent_number numbers.now i }
 {
-    numbers
-        .get(i)
-        .copied()
-        .unwrap_or(scalar::not_a_number())
+    numbers.get(i).copied().unwrap_or(scalar::not_a_number())
 }
 
 pub fn arc(numbers: &[f64], marks: u32) -> Arc

@@ -1,69 +1,15 @@
 // What the library answers, as numbers in a lent slice.
-#![tactic(auto, unfolding(crate::specs::Exported::floats))]
-
-ghost use Rattle.std.specs.Prelude.{◌≡◌, refl, ◌≤◌, [], ◌∷◌, ◌++◌, length};
+ghost use Rattle.std.specs.Prelude.{◌≡◌, ◌≤◌, length};
 ghost use Rattle.rooms.specs.Laid.{over};
-ghost use Rattle.checks.specs.Refusal.{accepted, number_of};
-ghost use Rattle.checks.specs.Answer.{Answer, told, values};
-ghost use Rattle.export_numbers.specs.Exported.{short, with_room, floats, NumbersOut, NumbersWritten};
+ghost use Rattle.checks.specs.Refusal.{number_of};
+ghost use Rattle.checks.specs.Answer.{told};
+ghost use Rattle.export_numbers.specs.Exported.{short, with_room, NumbersOut, NumbersWritten};
 
-ghost use Rattle.std.proofs.Common.{rules};
-
+use calls_answers::Numbers;
 use checks::Refusal;
-use curves::{Point, Radii};
 
 // The refusal of a room that is too short, as an export gives it.
 pub const SHORT: u32 = Refusal::RoomTooShort as u32;
-
-// What a call gives back, as the numbers that C reads.
-pub trait Numbers<const N: usize> {
-    ghost says: { Self → Answer };
-
-    fn numbers(self) -> [f64; N]
-        ensures values { result ≡ (says self).numbers ++ floats (says self).counts }
-        ensures count { length result ≡ N };
-
-    ghost accepts: { (x : Self) → (says x).refusal ≡ accepted };
-
-    // An array of them fits into memory.
-    ghost few: { N ≤ 8 };
-}
-
-impl Numbers<1> for f64 {
-    ghost says = { λ x. values (x ∷ []) };
-
-    ghost accepts = { λ x. refl };
-
-    ghost few = { Prim.search rules };
-
-    fn numbers(self) -> [f64; 1] {
-        [self]
-    }
-}
-
-impl Numbers<2> for Point {
-    ghost says = { λ p. values (p.x ∷ p.y ∷ []) };
-
-    ghost accepts = { λ p. refl };
-
-    ghost few = { Prim.search rules };
-
-    fn numbers(self) -> [f64; 2] {
-        [self.x, self.y]
-    }
-}
-
-impl Numbers<2> for Radii {
-    ghost says = { λ r. values (r.a ∷ r.b ∷ []) };
-
-    ghost accepts = { λ r. refl };
-
-    ghost few = { Prim.search rules };
-
-    fn numbers(self) -> [f64; 2] {
-        [self.a, self.b]
-    }
-}
 
 // Refused where they do not fit.
 pub fn write(numbers: &[f64], out: &mut [f64]) -> u32
@@ -76,11 +22,11 @@ pub fn write(numbers: &[f64], out: &mut [f64]) -> u32
     0
 }
 
-pub fn place(numbers: &[f64], out: &mut [f64])
-    requires { length numbers.now ≤ length out.old }
-    ensures { out.new ≡ over numbers.now out.old }
+pub fn place<T: Copy>(values: &[T], out: &mut [T])
+    requires { length values.now ≤ length out.old }
+    ensures { out.new ≡ over values.now out.old }
 {
-    out[..numbers.len()].copy_from_slice(numbers);
+    out[..values.len()].copy_from_slice(values);
 }
 
 // The library's refusal where there is room for so many numbers; else the room's in its place, as 01's order has it.
@@ -95,7 +41,10 @@ pub fn refuse(r: Refusal, need: usize, room: usize) -> u32
 }
 
 // What a call answers, to the head of `out`.
-pub fn write_answer<const N: usize, T: Numbers<N>>(answer: Result<T, Refusal>, out: &mut [f64]) -> u32
+pub fn write_answer<const N: usize, T: Numbers<N>>(
+    answer: Result<T, Refusal>,
+    out: &mut [f64],
+) -> u32
     ensures { NumbersOut N (told T.says answer) out.old result out.new }
 {
     match answer {

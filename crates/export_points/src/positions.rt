@@ -6,6 +6,7 @@ ghost use Rattle.export_numbers.specs.Lent.{lent_arc};
 ghost use Rattle.export_numbers.specs.Exported.{NumbersOut};
 
 use curves::Point;
+use export_numbers::write_answer;
 
 pub fn arcs_ellipse_point(
     cx: f64,
@@ -19,19 +20,19 @@ pub fn arcs_ellipse_point(
     ensures { NumbersOut 2 (ellipse_point_answer (at cx cy) rx ry rot t) out.old result out.new }
 {
     let told = calls_points::ellipse_point(Point { x: cx, y: cy }, rx, ry, rot, t);
-    export_numbers::write_pair(told, out)
+    write_answer(told, out)
 }
 
 pub fn arcs_ellipse_tangent(rx: f64, ry: f64, rot: f64, t: f64, out: &mut [f64]) -> u32
     ensures { NumbersOut 2 (ellipse_tangent_answer rx ry rot t) out.old result out.new }
 {
-    export_numbers::write_pair(calls_points::ellipse_tangent(rx, ry, rot, t), out)
+    write_answer(calls_points::ellipse_tangent(rx, ry, rot, t), out)
 }
 
 pub fn arcs_arc_point_at(a: &[f64], a_marks: u32, t: f64, out: &mut [f64]) -> u32
     ensures { NumbersOut 2 (arc_point_at_answer (lent_arc a.now a_marks) t) out.old result out.new }
 {
-    export_numbers::write_pair(
+    write_answer(
         calls_points::arc_point_at(export_numbers::arc(a, a_marks), t),
         out,
     )
@@ -40,7 +41,7 @@ pub fn arcs_arc_point_at(a: &[f64], a_marks: u32, t: f64, out: &mut [f64]) -> u3
 pub fn arcs_arc_tangent_at(a: &[f64], a_marks: u32, t: f64, out: &mut [f64]) -> u32
     ensures { NumbersOut 2 (arc_tangent_at_answer (lent_arc a.now a_marks) t) out.old result out.new }
 {
-    export_numbers::write_pair(
+    write_answer(
         calls_points::arc_tangent_at(export_numbers::arc(a, a_marks), t),
         out,
     )
@@ -49,7 +50,7 @@ pub fn arcs_arc_tangent_at(a: &[f64], a_marks: u32, t: f64, out: &mut [f64]) -> 
 pub fn arcs_arc_start_pos(a: &[f64], a_marks: u32, out: &mut [f64]) -> u32
     ensures { NumbersOut 2 (arc_start_pos_answer (lent_arc a.now a_marks)) out.old result out.new }
 {
-    export_numbers::write_pair(
+    write_answer(
         calls_points::arc_start_pos(export_numbers::arc(a, a_marks)),
         out,
     )
@@ -58,7 +59,7 @@ pub fn arcs_arc_start_pos(a: &[f64], a_marks: u32, out: &mut [f64]) -> u32
 pub fn arcs_arc_end_pos(a: &[f64], a_marks: u32, out: &mut [f64]) -> u32
     ensures { NumbersOut 2 (arc_end_pos_answer (lent_arc a.now a_marks)) out.old result out.new }
 {
-    export_numbers::write_pair(
+    write_answer(
         calls_points::arc_end_pos(export_numbers::arc(a, a_marks)),
         out,
     )
@@ -80,7 +81,7 @@ pub fn arcs_point_to_segment_dist(
         Point { x: ax, y: ay },
         Point { x: bx, y: by },
     );
-    export_numbers::write_number(told, out)
+    write_answer(told, out)
 }
 
 pub fn arcs_project_onto_segment(
@@ -99,7 +100,7 @@ pub fn arcs_project_onto_segment(
         Point { x: ax, y: ay },
         Point { x: bx, y: by },
     );
-    export_numbers::write_pair(told, out)
+    write_answer(told, out)
 }
 
 pub fn arcs_line_line_intersection(
@@ -121,5 +122,5 @@ pub fn arcs_line_line_intersection(
         Point { x: x3, y: y3 },
         Point { x: x4, y: y4 },
     );
-    export_numbers::write_pair(told, out)
+    write_answer(told, out)
 }

@@ -5,17 +5,18 @@ ghost use Rattle.export_numbers.specs.Lent.{lent_arc};
 ghost use Rattle.export_numbers.specs.Exported.{NumbersOut};
 
 use curves::Point;
+use export_numbers::write_answer;
 
 pub fn arcs_norm_tau(v: f64, out: &mut [f64]) -> u32
     ensures { NumbersOut 1 (norm_tau_answer v) out.old result out.new }
 {
-    export_numbers::write_number(calls_points::norm_tau(v), out)
+    write_answer(calls_points::norm_tau(v), out)
 }
 
 pub fn arcs_arc_param_in_span(a: &[f64], a_marks: u32, theta: f64, out: &mut [f64]) -> u32
     ensures { NumbersOut 1 (arc_param_in_span_answer (lent_arc a.now a_marks) theta) out.old result out.new }
 {
-    export_numbers::write_number(
+    write_answer(
         calls_points::arc_param_in_span(export_numbers::arc(a, a_marks), theta),
         out,
     )
@@ -24,7 +25,7 @@ pub fn arcs_arc_param_in_span(a: &[f64], a_marks: u32, theta: f64, out: &mut [f6
 pub fn arcs_arc_radii(a: &[f64], a_marks: u32, out: &mut [f64]) -> u32
     ensures { NumbersOut 2 (arc_radii_answer (lent_arc a.now a_marks)) out.old result out.new }
 {
-    export_numbers::write_pair(
+    write_answer(
         calls_points::arc_radii(export_numbers::arc(a, a_marks)),
         out,
     )
@@ -37,7 +38,7 @@ pub fn arcs_arc_theta_of_pos(a: &[f64], a_marks: u32, px: f64, py: f64, out: &mu
         export_numbers::arc(a, a_marks),
         Point { x: px, y: py },
     );
-    export_numbers::write_number(told, out)
+    write_answer(told, out)
 }
 
 pub fn arcs_arc_param_at_point(a: &[f64], a_marks: u32, px: f64, py: f64, out: &mut [f64]) -> u32
@@ -47,5 +48,5 @@ pub fn arcs_arc_param_at_point(a: &[f64], a_marks: u32, px: f64, py: f64, out: &
         export_numbers::arc(a, a_marks),
         Point { x: px, y: py },
     );
-    export_numbers::write_number(told, out)
+    write_answer(told, out)
 }

@@ -5,8 +5,8 @@ ghost use Rattle.curves.specs.At.{at};
 ghost use Rattle.export_numbers.specs.Lent.{lent_arc};
 ghost use Rattle.export_numbers.specs.Exported.{NumbersOut};
 
-use crate::out;
 use curves::Point;
+use export_numbers::write_answer;
 
 pub fn arcs_point_to_arc_dist(px: f64, py: f64, a: &[f64], a_marks: u32, out: &mut [f64]) -> u32
     ensures { NumbersOut 3 (point_to_arc_dist_answer (at px py) (lent_arc a.now a_marks)) out.old result out.new }
@@ -15,7 +15,7 @@ pub fn arcs_point_to_arc_dist(px: f64, py: f64, a: &[f64], a_marks: u32, out: &m
         Point { x: px, y: py },
         export_numbers::arc(a, a_marks),
     );
-    out::write_distance(told, out)
+    write_answer(told, out)
 }
 
 pub fn arcs_nearest_arc_param(a: &[f64], a_marks: u32, px: f64, py: f64, out: &mut [f64]) -> u32
@@ -25,7 +25,7 @@ pub fn arcs_nearest_arc_param(a: &[f64], a_marks: u32, px: f64, py: f64, out: &m
         export_numbers::arc(a, a_marks),
         Point { x: px, y: py },
     );
-    export_numbers::write_number(told, out)
+    write_answer(told, out)
 }
 
 // A flag is set where it is not 0.
@@ -52,7 +52,7 @@ pub fn arcs_svg_arc_to_center(
         large_arc != 0,
         sweep != 0,
     );
-    out::write_center(told, out)
+    write_answer(told, out)
 }
 
 pub fn arcs_circumscribed_arc(
@@ -71,7 +71,7 @@ pub fn arcs_circumscribed_arc(
         Point { x: x2, y: y2 },
         Point { x: x3, y: y3 },
     );
-    out::write_through(told, out)
+    write_answer(told, out)
 }
 
 // (tx, ty) is a direction.
@@ -91,7 +91,7 @@ pub fn arcs_circle_tangent_through(
         Point { x: ex, y: ey },
         Point { x: tx, y: ty },
     );
-    out::write_tangent(told, out)
+    write_answer(told, out)
 }
 
 // (tx1, ty1) and (tx2, ty2) are directions.
@@ -116,5 +116,5 @@ pub fn arcs_fit_earc_tangent(
         Point { x: tx2, y: ty2 },
         bulge,
     );
-    out::write_fitted(told, out)
+    write_answer(told, out)
 }

@@ -2,7 +2,6 @@
 #![tactic(auto)]
 
 mod figures;
-mod out;
 
 pub use figures::{
     arcs_circle_tangent_through, arcs_circumscribed_arc, arcs_fit_earc_tangent,

@@ -1,15 +1,13 @@
 // The drawings and limits of document 01 that are run: one line a case. stdout has the lines that are right.
 #![tactic(auto)]
 
-mod answers;
 mod copying;
 mod drawings;
 mod told;
 
 ghost use Rattle.std.specs.Prelude.{◌≤◌, ◌<◌};
 
-use answers::Refusal;
-use arcs::{CLOSED_HITS, Curve, HIT, HUNT_HITS, Point, Tally};
+use arcs::{CLOSED_HITS, Curve, HIT, HUNT_HITS, Point, Refusal, Tally};
 use drawings::{
     Drawing, ORIGIN, on_the_circle, p10, p10_swapped, p11, p11_swapped, two_circles, unit_circle,
 };
@@ -34,12 +32,12 @@ const DEPTH_3: usize = 2 * DEPTH_2;
 // The distance of a position from the segment from 0 to (1, 0).
 fn ask_distance(output: Stdout, words: &str, x: f64, y: f64) -> io::Result<()> {
     let one = Point { x: 1.0, y: 0.0 };
-    let told = Told(answers::point_to_segment_dist(Point { x, y }, ORIGIN, one).map(|_| "taken"));
+    let told = Told(arcs::point_to_segment_dist(Point { x, y }, ORIGIN, one).map(|_| "taken"));
     println!(output; "{words}: {told}")
 }
 
 fn ask_norm(output: Stdout, words: &str, angle: f64) -> io::Result<()> {
-    let told = Told(answers::norm_tau(angle).map(|_| "taken"));
+    let told = Told(arcs::norm_tau(angle).map(|_| "taken"));
     println!(output; "{words}: {told}")
 }
 
@@ -63,7 +61,7 @@ fn ask_segments(output: Stdout, words: &str, room: &mut [f64]) -> io::Result<()>
     let b = Point { x: 0.0, y: 2.0 };
     let c = Point { x: 2.0, y: 0.0 };
     let len = room.len();
-    let told = Told(answers::intersect_segments(ORIGIN, a, b, c, room).map(Hits));
+    let told = Told(arcs::intersect_segments(ORIGIN, a, b, c, room).map(Hits));
     println!(output; "{words}room of {len}: {told}")
 }
 
@@ -71,7 +69,7 @@ fn ask_segment_arc(output: Stdout, words: &str, room: &mut [f64]) -> io::Result<
     let a = Point { x: -2.0, y: 0.0 };
     let b = Point { x: 2.0, y: 0.0 };
     let len = room.len();
-    let told = Told(answers::intersect_segment_arc(a, b, unit_circle(), room).map(Hits));
+    let told = Told(arcs::intersect_segment_arc(a, b, unit_circle(), room).map(Hits));
     println!(output; "{words}room of {len}: {told}")
 }
 
@@ -97,7 +95,7 @@ fn print_hunted(
 
 fn ask_arcs(output: Stdout, d: Drawing, depth: u32, room: &mut [f64]) -> io::Result<()> {
     let len = room.len();
-    let answer = answers::intersect_arcs(d.a, d.b, depth, room);
+    let answer = arcs::intersect_arcs(d.a, d.b, depth, room);
     print_hunted(output, d.name, depth, len, answer)
 }
 
@@ -110,7 +108,7 @@ fn ask_curves(
     room: &mut [f64],
 ) -> io::Result<()> {
     let len = room.len();
-    let answer = answers::intersect(a, b, depth, room);
+    let answer = arcs::intersect(a, b, depth, room);
     print_hunted(output, words, depth, len, answer)
 }
 

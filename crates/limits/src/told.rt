@@ -1,6 +1,5 @@
 // What a line says of an answer.
-use crate::answers::Refusal;
-use arcs::Tally;
+use arcs::{Refusal, Tally};
 use std::fmt;
 
 // What was found, or by which number the call refuses.

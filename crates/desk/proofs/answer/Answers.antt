@@ -50,4 +50,4 @@ returns-in-Some-Query c =
 pub returns-in-None : goal.returns-in-None
 returns-in-None c =
     let z = c.args in
-    rw c.in-None.is (malformed_answered z.table z.number z.room.now z.out.now c.if-room-out.false _ _ _ refl refl c.refused_line-printed.ensures refl)
+    rw c.in-None.is (malformed_answered z.table z.number z.room.now z.out.now c.if-room-out.false _ _ _ refl refl (rw c.from.ensures at c.refused_line-printed.ensures) refl)

@@ -24,4 +24,4 @@ pub returns : goal.returns
 returns c =
     let z = c.args in
     rw (query_missing z.table z.i z.j z.depth c.held-first.ensures c.held-second.ensures c.if-first-second.false)
-    (record { bytes = c.refused_line.ensures; hits = sym (written_none _) })
+    (record { bytes = rw c.from.ensures at c.refused_line.ensures; hits = sym (written_none _) })

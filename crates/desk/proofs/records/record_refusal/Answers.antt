@@ -5,7 +5,7 @@ use Rattle.desk.proofs.records.record_refusal.Goals as goal
 
 pub returns-then-table-lt-MOST : goal.returns-then-table-lt-MOST
 unfolding record_refusal
-returns-then-table-lt-MOST c = rw (lt-ltb _ _ c.if-table-lt-MOST.true, c.refusal.ensures, c.curve.ensures, c.none.ensures)
+returns-then-table-lt-MOST c = rw (lt-ltb _ _ c.if-table-lt-MOST.true, c.passed.ensures, c.curve.ensures, c.none.ensures)
 
 pub returns : goal.returns
 unfolding record_refusal

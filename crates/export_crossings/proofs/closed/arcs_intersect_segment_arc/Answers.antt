@@ -6,11 +6,11 @@ use Rattle.export_crossings.proofs.closed.arcs_intersect_segment_arc.Goals as go
 pub returns-then-counts-lt1 : goal.returns-then-counts-lt1
 returns-then-counts-lt1 c =
     rw (← c.arc-q.ensures)
-    (hits_short (segment_arc_answer _ _ _) (rw c.segment_arc_refusal-no.ensures at c.or_later.ensures) c.if-counts-lt1.true)
+    (hits_short (segment_arc_answer _ _ _) (rw c.segment_arc_refusal.ensures at c.short.ensures) c.if-counts-lt1.true)
 
 pub returns : goal.returns
 returns c =
-    rw (c.found_refusal.ensures, ← c.arc-q.ensures)
-    (hits_out (segment_arc_answer _ _ _) c.intersect_segment_arc-f.ensures
+    rw (c.write_counts.ensures.refusal, ← c.arc-q.ensures)
+    (hits_out (segment_arc_answer _ _ _) c.intersect_segment_arc.ensures
     c.if-counts-lt1.false
-    c.count_found.ensures)
+    c.write_counts.ensures.counts)

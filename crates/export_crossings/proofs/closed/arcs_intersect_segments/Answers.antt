@@ -5,11 +5,11 @@ use Rattle.export_crossings.proofs.closed.arcs_intersect_segments.Goals as goal
 
 pub returns-then-counts-lt1 : goal.returns-then-counts-lt1
 returns-then-counts-lt1 c =
-    hits_short (segments_answer _ _ _ _) (rw c.segments_refusal-no.ensures at c.or_later.ensures) c.if-counts-lt1.true
+    hits_short (segments_answer _ _ _ _) (rw c.segments_refusal.ensures at c.short.ensures) c.if-counts-lt1.true
 
 pub returns : goal.returns
 returns c =
-    rw c.found_refusal.ensures
-    (hits_out (segments_answer _ _ _ _) c.intersect_segments-f.ensures
+    rw c.write_counts.ensures.refusal
+    (hits_out (segments_answer _ _ _ _) c.intersect_segments.ensures
     c.if-counts-lt1.false
-    c.count_found.ensures)
+    c.write_counts.ensures.counts)

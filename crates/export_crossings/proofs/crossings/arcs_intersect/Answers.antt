@@ -9,14 +9,14 @@ returns-then-counts-lt6 c =
     let q = c.curve-q.result in
     let depth = c.args.depth in
     rw (← c.curve-p.ensures, ← c.curve-q.ensures)
-    (hits_short (curves_answer p q depth) (rw c.intersect_refusal-no.ensures at c.or_later.ensures) c.if-counts-lt6.true)
+    (hits_short (curves_answer p q depth) (rw c.intersect_refusal.ensures at c.short.ensures) c.if-counts-lt6.true)
 
 pub returns : goal.returns
 returns c =
     let p = c.curve-p.result in
     let q = c.curve-q.result in
     let depth = c.args.depth in
-    rw (c.hunted_refusal.ensures, ← c.curve-p.ensures, ← c.curve-q.ensures)
-    (hits_out (curves_answer p q depth) c.intersect-h.ensures
+    rw (c.write_counts.ensures.refusal, ← c.curve-p.ensures, ← c.curve-q.ensures)
+    (hits_out (curves_answer p q depth) c.intersect.ensures
     c.if-counts-lt6.false
-    c.count_hunted.ensures)
+    c.write_counts.ensures.counts)

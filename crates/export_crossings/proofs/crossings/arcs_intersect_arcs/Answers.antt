@@ -6,11 +6,11 @@ use Rattle.export_crossings.proofs.crossings.arcs_intersect_arcs.Goals as goal
 pub returns-then-counts-lt6 : goal.returns-then-counts-lt6
 returns-then-counts-lt6 c =
     rw (← c.arc-p.ensures, ← c.arc-q.ensures)
-    (hits_short (arcs_answer _ _ _) (rw c.arcs_refusal-no.ensures at c.or_later.ensures) c.if-counts-lt6.true)
+    (hits_short (arcs_answer _ _ _) (rw c.arcs_refusal.ensures at c.short.ensures) c.if-counts-lt6.true)
 
 pub returns : goal.returns
 returns c =
-    rw (c.hunted_refusal.ensures, ← c.arc-p.ensures, ← c.arc-q.ensures)
-    (hits_out (arcs_answer _ _ _) c.intersect_arcs-h.ensures
+    rw (c.write_counts.ensures.refusal, ← c.arc-p.ensures, ← c.arc-q.ensures)
+    (hits_out (arcs_answer _ _ _) c.intersect_arcs.ensures
     c.if-counts-lt6.false
-    c.count_hunted.ensures)
+    c.write_counts.ensures.counts)
