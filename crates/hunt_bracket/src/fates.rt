@@ -14,11 +14,19 @@ fn near(p: f64, q: f64) -> bool
     scalar::abs(p - q) < 1e-7
 }
 
-// Whether one of the hits has its angle on a near t. A double nearly always comes from the neighbouring cell, so the newest hit is looked at first.
+// Whether one of the hits has its angle on a near t. A double nearly always comes from the neighbouring cell, so the newest hit is looked at first. The loop is left by `break` at the
+// first that is near: 01, 'Forms'.
 fn seen(hits: &[[f64; HIT]], t: f64) -> bool
     ensures { result ≡ double t (map hit_from hits.now) }
 {
-    hits.iter().rev().any(|h| near(h[0], t))
+    let mut found = false;
+    for i in (0..hits.len()).rev() {
+        if near(hits[i][0], t) {
+            found = true;
+            break;
+        }
+    }
+    found
 }
 
 // The tests in their order: outside a, outside b, double.
