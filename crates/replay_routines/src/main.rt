@@ -7,6 +7,8 @@
 
 mod routine;
 
+use replay_rows::answer::UNWRITTEN;
+use replay_rows::rows;
 use replay_rows::tally::Count;
 use routine::{NAMES, Routine};
 use std::io;
@@ -22,12 +24,10 @@ struct Row {
 }
 
 // A byte that is no digit counts as 0.
-fn hex_digit(b: u8) -> u64 {
-    u64::from(digits::hex_value(b).unwrap_or(0))
-}
-
 fn hex_word(digits: &[u8]) -> u64 {
-    digits.iter().fold(0, |word, b| word << 4 | hex_digit(*b))
+    digits
+        .iter()
+        .fold(0, |word, b| word << 4 | rows::digit(*b).unwrap_or(0))
 }
 
 fn row_of(bytes: &[u8; 70]) -> Row {
@@ -49,9 +49,6 @@ fn read_row(input: &mut Stdin) -> io::Result<Option<Row>> {
         Err(e) => Err(e),
     }
 }
-
-// What stands where an answer is to be written: a number that no answer has.
-const UNWRITTEN: f64 = 1.0e300;
 
 // Three numbers, of which the first `len` are lent: number `asked` of them after the call, and for 3 the refusal.
 fn sin_cos(x: f64, len: u64, asked: u64) -> u64 {

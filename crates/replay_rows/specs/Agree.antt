@@ -1,6 +1,6 @@
 -- When an answer is that of a row: the refusal is the row's, and the words told are its outputs and, past these, what stood there before. A row is the call, four lengths, how many
 -- inputs, the inputs, the refusal, how many outputs, the outputs: bench/src/bin/samples.rs.
-use Rattle.std.specs.Prelude.{ℕ, ◌+◌, ◌<◌, ◌≡◌, Bool, true, cond, List, ltb, get_or}
+use Rattle.std.specs.Prelude.{ℕ, ◌+◌, ◌<◌, ◌≡◌, cond, List, ltb, get_or}
 
 -- what stands where nothing was written: the bits of 1e300
 abbrev pub unwritten : ℕ
@@ -17,8 +17,3 @@ Same row at n told = (i : ℕ) → i < 128 → stored row at n i ≡ get_or told
 pub record Agrees (row : List ℕ) (inputs : ℕ) (outputs : ℕ) (refusal : ℕ) (told : List ℕ) : Type 0 where
   pub refused : refusal ≡ get_or row (inputs + 6) 0
   pub words : Same row (inputs + 8) outputs told
-
--- the answer is true exactly where A holds
-pub record Decides (answer : Bool) (A : Type 0) : Type 0 where
-  pub sound : answer ≡ true → A
-  pub complete : A → answer ≡ true

@@ -1,11 +1,15 @@
 // The words of a row: whole numbers in hex digits, parted by one tab.
 use arrayvec::ArrayVec;
 
-// The bytes of a row as they come. A row has at most 128 words of 16 digits and the tabs between them, a byte less than fits: what a longer line has past it is dropped,
-// since it can be no row.
+// A line as its bytes come. A row has at most 128 words of 16 digits and the tabs between them, a byte less than fits here. So a line that is full is no row, and what comes after may be dropped.
 pub type Line = ArrayVec<u8, 2176>;
 
 pub type Words = ArrayVec<u64, 128>;
+
+// The value of a hex digit.
+pub fn digit(b: u8) -> Option<u64> {
+    digits::hex_value(b).map(u64::from)
+}
 
 fn word(digits: &[u8]) -> Option<u64> {
     if digits.is_empty() || 16 < digits.len() {
@@ -13,7 +17,7 @@ fn word(digits: &[u8]) -> Option<u64> {
     }
     digits
         .iter()
-        .try_fold(0, |word, b| Some(word << 4 | u64::from(digits::hex_value(*b)?)))
+        .try_fold(0, |word, b| Some(word << 4 | digit(*b)?))
 }
 
 // Nothing where some word cannot be read, or there are too many.

@@ -1,5 +1,5 @@
 // A stored answer and what was asked, as the words of a row have them: bench/src/bin/samples.rs.
-ghost use Rattle.std.specs.Prelude.{◌≡◌, ◌+◌, ◌<◌, length};
+ghost use Rattle.std.specs.Prelude.{◌≡◌, ◌+◌, ◌<◌, ◌↔◌, IsTrue, length};
 
 use crate::answer::{Answer, UNWRITTEN_BITS};
 use crate::call::Call;
@@ -33,7 +33,7 @@ pub struct Sample<'a> {
 }
 
 impl<'a> Sample<'a> {
-    ghost use Rattle.replay_rows.specs.Agree.{Agrees, Decides, stored};
+    ghost use Rattle.replay_rows.specs.Agree.{Agrees, stored};
 
     // Nothing where there is no such call, or not as many inputs and outputs as the words say.
     pub fn read(words: &'a [u64]) -> Option<Sample<'a>> {
@@ -116,7 +116,7 @@ impl<'a> Sample<'a> {
     }
 
     pub fn agrees(&self, answer: &Answer) -> bool
-        ensures { Decides result (Agrees self.now.words.now self.now.inputs self.now.outputs answer.now.refusal answer.now.words) }
+        ensures { IsTrue result ↔ Agrees self.now.words.now self.now.inputs self.now.outputs answer.now.refusal answer.now.words }
     {
         u64::from(answer.refusal) == self.words[self.inputs + 6]
             && answer
