@@ -58,6 +58,7 @@ pub fn arc_radii(arc: Arc) -> Radii
 }
 
 // A position in the frame of an ellipse with the center c and the rotation rot, scaled so that the ellipse is the unit circle.
+// The radii are those of `arc_radii`, where `turn_point` takes an arc's own, so no one record of a frame serves both.
 pub fn to_unit(p: Point, c: Point, rot: SinCos, r: Radii) -> Point
     ensures { result ≡ to_unit p c rot.sin rot.cos r }
 {

@@ -7,16 +7,16 @@ use Prim.Native.Nat.{ℕ, zero as nought, suc, ◌+◌, ◌*◌, ◌^◌, ◌≤
 use native.Mathlib.Nat.{not-suc-le-zero, eq-or-lt_of_le}
 use native.Mathlib.Numerals.{add-one}
 use native.Mathlib.Omega.{arith}
-use lib.Dec.{eqb}
 use lib.ListN.{length, get_or, length-append, get_or-append}
 use lib.Seq.{get_or-append-add}
 use lib.Ieee.{Float}
+use Rattle.std.specs.Prelude.{Option}
 use Rattle.hunt_bracket.specs.declared.Frame.{Frame}
 use Rattle.hunt_bracket.specs.declared.Cell.{Cell}
 use Rattle.hunt_bracket.specs.declared.Fate.{Fate}
 use Rattle.hunt_bracket.specs.declared.Fate.TheVariants.{OutsideA, OutsideB, Double, Hit}
 use Rattle.hunt_bracket.specs.Frame.{value}
-use Rattle.hunt.specs.Cells.{sample, brackets, cell, first_cells, bracketed}
+use Rattle.hunt.specs.Cells.{sample, brackets, is_closing, cell, first_cells, bracketed}
 use Rattle.hunt_bracket.specs.Narrow.{opened, middles, last}
 use Rattle.hunt_bracket.specs.Fate.{fate, kept}
 use Rattle.hits.specs.Outcome.{Outcome, tally, none}
@@ -128,7 +128,7 @@ bracketed-most (c ∷ cs) = omega (arith, most (brackets c), bracketed-most cs)
     most false = omega arith
 
 -- ---- the first n cells
-module _ (f : Frame) (start step : Float) (closing : ℕ) where
+module _ (f : Frame) (start step : Float) (closing : Option ℕ) where
   pub first_cells-length : (n : ℕ) → length (first_cells f start step closing n) ≡ n
   unfolding first_cells
   first_cells-length nought = refl
@@ -177,7 +177,7 @@ module _ (f : Frame) (start step : Float) (closing : ℕ) where
 
   -- a cell by its parts, the next sample being that after i
   pub cell_is : (i : ℕ) (lo hi gLo gHi : Float) → lo ≡ sample start step i → hi ≡ sample start step (i + 1) → gLo ≡ value f lo → gHi ≡ value f hi
-      → ◌≡◌ {A = Cell} (record { lo = lo; hi = hi; g_lo = gLo; g_hi = gHi; closes = eqb (i + 1) closing }) (cell f start step closing i)
+      → ◌≡◌ {A = Cell} (record { lo = lo; hi = hi; g_lo = gLo; g_hi = gHi; closes = is_closing closing (i + 1) }) (cell f start step closing i)
   unfolding cell
   cell_is i lo hi gLo gHi p q u v = rw (u, v, p, q, add-one)
 

@@ -1,6 +1,6 @@
 -- 01, 'Span and crossings': "It also holds the number of points evaluated, which equals the length of the list of angles in the definition". What a hunt makes of its outcome so far,
 -- cell after cell.
-use Rattle.std.specs.Prelude.{ℕ, ◌+◌, ◌≤◌, cond, List, [], ◌∷◌, ◌++◌, length, Float}
+use Rattle.std.specs.Prelude.{ℕ, ◌+◌, ◌≤◌, cond, Option, List, [], ◌∷◌, ◌++◌, length, Float}
 use Rattle.hits.specs.declared.Tally.{Tally}
 use Rattle.hits.specs.Outcome.{Outcome, none}
 use Rattle.hunt_bracket.specs.declared.Frame.{Frame}
@@ -47,7 +47,7 @@ visits f [] o = o
 visits f (c ∷ cs) o = visits f cs (visit f c o)
 
 -- the first n cells of the samples start + step * i, after the look at the start
-unfoldable pub scanned : Frame → Float → Float → ℕ → ℕ → Outcome
+unfoldable pub scanned : Frame → Float → Float → Option ℕ → ℕ → Outcome
 scanned f start step closing n = visits f (first_cells f start step closing n) (look (start ∷ []) none)
 
 -- the four fates together

@@ -1,7 +1,7 @@
 // How a's span is cut into cells, and which cells bracket.
 ghost use Rattle.std.specs.Prelude.{◌≡◌, ◌≤◌};
 ghost use Rattle.laws.specs.Part.{part};
-ghost use Rattle.hunt.specs.Cells.{cells, span, sample, bracket, closing_cell, brackets};
+ghost use Rattle.hunt.specs.Cells.{cells, span, sample, bracket, closing_cell, is_closing, brackets};
 
 use curves::Arc;
 use hunt_bracket::Cell;
@@ -51,14 +51,21 @@ fn bracket(first: f64, second: f64) -> bool
 
 // Which cell of a depth closes the span, counted from 1. Depth 0 is the Rust's, which has no such cell.
 #[tactic(auto, unfolding(crate::specs::Cells::closing_cell))]
-pub fn closing_cell(depth: u32) -> u32
+pub fn closing_cell(depth: u32) -> Option<u32>
     requires { depth ≤ 7 }
     ensures { result ≡ closing_cell depth }
 {
     if depth == 0 {
-        return 0;
+        return None;
     }
-    cell_count(depth)
+    Some(cell_count(depth))
+}
+
+// Whether it is the cell i, counted from 1.
+pub fn is_closing(closing: Option<u32>, i: u32) -> bool
+    ensures { result ≡ is_closing closing i }
+{
+    Some(i) == closing
 }
 
 // Whether a cell brackets a crossing: one bracket, also where both rules hold.

@@ -12,7 +12,7 @@ ghost use Rattle.hits.specs.Holds.{Holds, Steps};
 ghost use Rattle.hunt.specs.Visits.{Small, visit, scanned};
 ghost use Rattle.hunt.specs.Hunt.{early, hunted};
 
-pub use cells::{brackets, cell_count, closing_cell, sample};
+pub use cells::{brackets, cell_count, closing_cell, is_closing, sample};
 use curves::Arc;
 use hits::Tally;
 use hunt_bracket::{Cell, Frame};
@@ -31,7 +31,7 @@ pub fn visit(f: &Frame, c: Cell, t: Tally, room: &mut [f64]) -> Tally
 }
 
 // The first n cells of the samples start + step * i.
-fn scan(f: &Frame, start: f64, step: f64, closing: u32, n: u32, room: &mut [f64]) -> Tally
+fn scan(f: &Frame, start: f64, step: f64, closing: Option<u32>, n: u32, room: &mut [f64]) -> Tally
     requires { (n ≤ 32768) × (n ≤ length room.old / hit_size) }
     ensures { Holds (scanned f.now start step closing n) room.old result room.new }
 {
@@ -47,7 +47,7 @@ fn scan(f: &Frame, start: f64, step: f64, closing: u32, n: u32, room: &mut [f64]
             hi,
             g_lo,
             g_hi,
-            closes: next == closing,
+            closes: is_closing(closing, next),
         };
         t = visit(f, c, t, room);
         lo = hi;
@@ -65,7 +65,7 @@ fn early(f: &Frame, span: f64) -> bool
     r.a < 1e-12 || r.b < 1e-12 || scalar::abs(cells::step(span, 256)) < 1e-15
 }
 
-// The hunt at a depth, with room for a hit in each cell.
+// The hunt at a depth, with room for a hit in each cell. The depth's bound is a clause and no type, since docs/HUNT.md names this contract, and callers may keep a plain depth.
 pub fn hunt(a: Arc, b: Arc, depth: u32, room: &mut [f64]) -> Tally
     requires { (depth ≤ 7) × (cells depth ≤ length room.old / hit_size) }
     ensures { Holds (hunted a b depth) room.old result room.new }

@@ -7,6 +7,7 @@ use Prim.Native.Nat.{ℕ, zero as nought, suc, ◌+◌, ◌*◌, ◌≤◌, ◌<
 use native.Mathlib.Nat.{le_refl, eq-or-lt_of_le}
 use native.Mathlib.Omega.{arith}
 use lib.Dec.{T}
+use Rattle.std.specs.Prelude.{Option}
 use lib.Ieee.Bits.{is_true}
 use lib.Ieee.{Float}
 use Rattle.hunt_bracket.specs.declared.Frame.{Frame}
@@ -63,7 +64,7 @@ unfolding bracketed
 bracketed_more [] c = omega arith
 bracketed_more (d ∷ cs) c = omega (arith, bracketed_more cs c)
 
-pub bracketed-count : (f : Frame) (start step : Float) (closing n : ℕ) → bracketed (first_cells f start step closing n) ≡ count (λ (i : ℕ). brackets (cell f start step closing i)) n
+pub bracketed-count : (f : Frame) (start step : Float) (closing : Option ℕ) (n : ℕ) → bracketed (first_cells f start step closing n) ≡ count (λ (i : ℕ). brackets (cell f start step closing i)) n
 unfolding first_cells count
 bracketed-count f start step closing nought = unfold bracketed in refl
 bracketed-count f start step closing (suc n) =

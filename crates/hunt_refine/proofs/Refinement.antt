@@ -6,10 +6,10 @@ use mathlib.Core.Bool.{Bool, true, false, cond, not, ◌||◌, true≢false}
 use Prim.Native.Nat.{ℕ, zero as nought, suc, ◌+◌, ◌-◌, ◌*◌, ◌^◌, ◌≤◌, ◌<◌}
 use native.Mathlib.Nat.{le_refl, mul-le-mul_left, eq-or-lt_of_le}
 use native.Mathlib.Omega.{arith}
-use lib.Dec.{T, lit≤}
+use lib.Dec.{T, lit≤, eqb→eq}
 use lib.Pow.{pow-add, pow_pos, pow_mono}
 use lib.Ieee.{Float, binary64, le, lt, fits, of_bits}
-use lib.Ieee.Fits.{sub-fits}
+use lib.Ieee.Fits.{sub-fits, eq→eqb}
 use lib.Ieee.Scale.{finite}
 use Rattle.laws.specs.Size.{power, abs}
 use Rattle.laws.specs.Literal.{zero_datum as zero, ten⁻¹², ten⁻¹⁵}
@@ -23,7 +23,7 @@ use Rattle.scalar.specs.Angles.{tau}
 use Rattle.curves.specs.declared.Arc.{Arc}
 use Rattle.arc.specs.Frame.{arc_radii}
 use Rattle.hunt_bracket.specs.Frame.{frame}
-use Rattle.hunt.specs.Cells.{cells, span, closing_cell, cell, brackets, bracketed, first_cells}
+use Rattle.hunt.specs.Cells.{cells, span, closing_cell, is_closing, cell, brackets, bracketed, first_cells}
 use Rattle.hunt_bracket.specs.Narrow.{opened, narrowed}
 use Rattle.hunt.specs.Hunt.{early, hunted}
 use Rattle.hunt.proofs.Closing.{closing_none, closing_last}
@@ -44,13 +44,11 @@ cells_deeper : (k d : ℕ) → cells (k + d) ≡ 2 ^ d * cells k
 cells_deeper k d = rw (pow-add 2 k d) (omega arith)
 
 -- the last cell of a level that has the rule ends where the last of a finer one does, which has it too
-closing_deeper : (k d i : ℕ) → suc i ≡ closing_cell k → 2 ^ d * suc i ≡ closing_cell (k + d)
-closing_deeper nought d i e = absurd (not_none (e ∙ closing_none))
-  where
-    not_none : suc i ≡ 0 → ⊥
-    not_none q = absurd (omega arith)
-closing_deeper (suc k) d i e =
-    ap (λ (n : ℕ). 2 ^ d * n) (e ∙ closing_last (suc k) (omega arith)) ∙ sym (closing_last (suc k + d) (omega arith) ∙ cells_deeper (suc k) d)
+closing_deeper : (k d i : ℕ) → T (is_closing (closing_cell k) (suc i)) → T (is_closing (closing_cell (k + d)) (2 ^ d * suc i))
+closing_deeper nought d i t = absurd (rw closing_none at t)
+closing_deeper (suc k) d i t =
+    let last : suc i ≡ cells (suc k) = eqb→eq (suc i) (cells (suc k)) (rw (closing_last (suc k) (omega arith)) at t) in
+    rw (closing_last (suc k + d) (omega arith)) (eq→eqb (ap (λ (n : ℕ). 2 ^ d * n) last ∙ sym (cells_deeper (suc k) d)))
 
 -- ---- the span of an arc within limits
 span-held : (a : Arc) → T (fits binary64 (span a))

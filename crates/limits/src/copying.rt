@@ -68,7 +68,7 @@ pub fn hunt(a: Arc, b: Arc, depth: u32, room: &mut [f64]) -> Tally
             hi,
             g_lo,
             g_hi,
-            closes: next == closing,
+            closes: hunt::is_closing(closing, next),
         };
         s.visit(f, c, room);
         lo = hi;

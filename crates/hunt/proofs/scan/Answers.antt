@@ -42,7 +42,7 @@ loop-i-preserved c =
       c.visit-t.auto.room ∙ l.invariant.1,
       c.sample-hi.ensures,
       c.value-g_hi.ensures,
-      rw (← next, ← same) v,
+      rw (← next, ← same, ← c.is_closing.ensures) v,
     )
 
 pub returns : goal.returns
