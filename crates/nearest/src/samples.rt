@@ -12,7 +12,7 @@ pub struct Best {
 }
 
 impl Search {
-    fn sample(&self, span: f64, n: u8, i: u32) -> f64
+    fn sample(&self, span: f64, n: u8, i: u8) -> f64
         ensures { result ≡ sample self.now.a span n i }
     {
         self.a.start + span * ((i as f64) / (n as f64))
@@ -35,7 +35,7 @@ impl Search {
             t: self.a.start,
             d: f64::MAX,
         };
-        for i in 0..u32::from(n) + 1 {
+        for i in 0..=n {
             best = self.closer(self.sample(span, n, i), best);
         }
         best
