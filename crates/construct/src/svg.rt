@@ -1,4 +1,4 @@
-// SVG 2's steps from the ends of an arc to its center, one function a step.
+// SVG 2's steps from the ends of an arc to its center, one function a step. Point and Radii are of another crate: a trait for each would be no plainer.
 ghost use Rattle.std.specs.Prelude.{◌≡◌};
 ghost use Rattle.construct.specs.OutOfRange.{identical, straight, lambda, enlarged};
 ghost use Rattle.construct.specs.Svg.{primed, quotient_root, sign, primed_center, turned_back, scaled, angle, swept};
