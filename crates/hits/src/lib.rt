@@ -176,7 +176,7 @@ pub fn hit<'a>(room: &'a [f64], hits: usize, i: usize) -> &'a [f64]
     ensures { result.now ≡ hit_part room.now hits i }
 {
     if hits.min(room.len() / HIT) <= i {
-        return &[];
+        return &room[..0];
     }
     let at = i * HIT;
     &room[at..at + HIT]
