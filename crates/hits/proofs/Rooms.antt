@@ -1,15 +1,15 @@
 -- The room of hits: what one more hit makes of it, and what stands in it.
 use mathlib.Core.Path.{◌≡◌, refl, sym, ap, ◌∙◌}
 use mathlib.Core.List.{List, [], ◌∷◌, ◌++◌, map}
-use Prim.Native.Nat.{ℕ, zero as nought, suc, ◌+◌, ◌*◌, ◌≤◌, ◌<◌}
+use Prim.Native.Nat.{ℕ, zero as nought, suc, ◌+◌, ◌*◌, ◌/◌, ◌≤◌, ◌<◌}
 use native.Mathlib.Nat.{mul_comm, zero-mul, suc-mul, add-zero}
 use native.Mathlib.Omega.{arith}
-use lib.ListN.{length, get_or, take, drop}
+use lib.ListN.{length, get_or, take, drop, set}
 use lib.Seq.{drop-cons, drop-drop, get_or-take, get_or-drop}
 use lib.Ieee.{Float, nan}
 use Rattle.std.specs.Simd.{first_chunks}
 use Rattle.rooms.specs.Laid.{flat, laid}
-use Rattle.rooms.proofs.Laws.{laid_none, laid_more, laid_read}
+use Rattle.rooms.proofs.Laws.{stored-placed, laid_none, laid_more, laid_read}
 use Rattle.hits.specs.declared.CurveHit.{CurveHit}
 use Rattle.hits.specs.Hit.{hit_size, numbers, hit_from, written, put, hit_at}
 use Rattle.hits.specs.Stands.{Stands}
@@ -24,6 +24,16 @@ numbers_size h = refl
 pub written_none : (l : List Float) → written [] l ≡ l
 unfolding written
 written_none l = laid_none numbers l
+
+-- one store after the other
+pub put_stores : (l : List Float) (n : ℕ) (h : CurveHit) → n < length l / hit_size
+    → let from = n * hit_size in set (set (set (set l from h.t_a) (from + 1) h.t_b) (from + 2) h.pos.x) (from + 3) h.pos.y ≡ put l n h
+unfolding put
+put_stores l n h fit =
+    let from = n * hit_size in
+    let two : from + 1 + 1 ≡ from + 2 = omega arith in
+    let three : from + 2 + 1 ≡ from + 3 = omega arith in
+    rw (two, three) at (stored-placed (numbers h) from l (omega arith))
 
 -- after the hits hs, the hit h
 pub put_written : (hs : List CurveHit) (h : CurveHit) (l : List Float) → put (written hs l) (length hs) h ≡ written (hs ++ h ∷ []) l

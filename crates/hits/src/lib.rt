@@ -2,7 +2,7 @@
 #![tactic(auto)]
 
 ghost use Rattle.std.specs.Prelude.{◌≡◌, ◌<◌, ◌≤◌, ◌/◌, length, map};
-ghost use Rattle.hits.specs.Hit.{hit_size, numbers, hit_from, put, hit_at, written, hit_part};
+ghost use Rattle.hits.specs.Hit.{hit_size, hit_from, put, hit_at, written, hit_part};
 ghost use Rattle.hits.specs.Need.{short};
 ghost use Rattle.hits.specs.Stands.{OfHits};
 ghost use Rattle.hits.specs.Listed.{listed, one, both, turned, exchanged};
@@ -89,14 +89,6 @@ impl From<[f64; HIT]> for CurveHit {
     }
 }
 
-impl From<CurveHit> for [f64; HIT] {
-    ghost from_gives = { λ h ns. ns ≡ numbers h };
-
-    fn from(h: CurveHit) -> [f64; HIT] {
-        [h.t_a, h.t_b, h.pos.x, h.pos.y]
-    }
-}
-
 impl CurveHit {
     fn turned(self) -> CurveHit
         ensures { result ≡ turned self }
@@ -140,14 +132,16 @@ pub fn first_hits(room: &[f64], count: usize) -> &[[f64; HIT]]
     &room.as_chunks::<HIT>().0[..count]
 }
 
-// Writes a hit after the first n.
-#[tactic(auto, unfolding(crate::specs::Hit::put))]
+// Writes a hit after the first n. Number by number, since an array that is copied to its place goes over the stack, which made the crossings of two circles slower.
 pub fn put(room: &mut [f64], n: usize, h: CurveHit)
     requires { n < length room.old / hit_size }
     ensures { room.new ≡ put room.old n h }
 {
     let at = n * HIT;
-    room[at..at + HIT].copy_from_slice(&<[f64; HIT]>::from(h));
+    room[at] = h.t_a;
+    room[at + 1] = h.t_b;
+    room[at + 2] = h.pos.x;
+    room[at + 3] = h.pos.y;
 }
 
 // Writes the crossings and answers how many they are.
