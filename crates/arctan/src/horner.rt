@@ -1,4 +1,5 @@
 // The series in whole numbers: Horner's scheme over a row of the table. A number stands at 2^61 with 2 added, the rest h at 2^62.
+// The bounds are clauses and no types: each step hands a bare number to the next, and a struct of one number would be opened and made again at each.
 
 ghost use Rattle.std.specs.Prelude.{◌≡◌, ◌≤◌, pos};
 ghost use Rattle.std.specs.Float.{binary64};

@@ -29,7 +29,8 @@ const PI_UNITS: u64 = 7244019458077122560;
 const CELL: u64 = 0x200_0000_0000_0000;
 
 // The whole part of 2^62 u: the 53 digits of u with ten zeros behind them, less those that its exponent puts below the point. A subnormal
-// number's digits are read wrong, and all are dropped. There is no branch, so that the table is read by a load.
+// number's digits are read wrong, and all are dropped. There is no branch, so that the table is read by a load. That u is from 0 to 1 is a clause of the
+// three functions that take it, and no type: a struct of one number, opened in each of them, would be no plainer.
 fn place(u: f64) -> u64
     requires { InUnit u }
     ensures { result ≡ place_of u }

@@ -17,7 +17,7 @@ pub fn looked(t: Tally, n: u32) -> Tally
     }
 }
 
-// One more bracket, with the fate d.
+// One more bracket, with the fate d. That the counts are small is a clause and no type: a tally is any six counts for whoever reads it, and only a scan's own steps, which change it, need the bound.
 pub fn settled(t: Tally, d: Fate) -> Tally
     requires { Small t }
     ensures { (o : Outcome) → t ≡ tally o → result ≡ tally (settle d o) }

@@ -59,6 +59,8 @@ fn by_digits(word: u64) -> u64
 // is taken from the number in three steps of 27 digits each, with a margin so that none comes out below
 // zero. Where one comes out large the guess is far off, and there is no answer. The differences are
 // tested by hand, since `checked_sub` compiles to two moves more on the way that every root waits for.
+// The bound on the guess is a clause and no type here and below: it is one number on its way from
+// `newton::guess`, and a struct of it would be opened at each use.
 fn excess(word: u64, guess: u64) -> Option<u64>
     requires { guess < 2 ^ 53 }
     ensures { IfSome result (λ over. (over < 2 ^ 62) × (over + guess * guess ≡ word * 2 ^ 42 + 2 ^ 56)) }

@@ -53,6 +53,7 @@ pub struct Place {
     pub sine: u64,
 }
 
+// The bound on n is a clause of the three functions that take it and no type: a struct of one number, opened in each, would be no plainer.
 pub fn split(n: u64) -> Place
     requires { n < 203 * 2 ^ 56 }
     ensures { Parts n result.node_sine result.node_cosine result.under result.versine result.sine }

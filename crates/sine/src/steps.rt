@@ -1,4 +1,4 @@
-// The steps of the rule on whole numbers.
+// The steps of the rule on whole numbers. Their bounds are clauses and no types: each number goes through one step, and a struct of it would be made and opened there.
 ghost use Rattle.std.specs.Prelude.{◌≡◌, ◌+◌, ◌*◌, ◌/◌, ◌^◌, ◌<◌, ◌≤◌, not, ◌==◌};
 ghost use Rattle.sine.specs.Node.{apart};
 ghost use Rattle.sine.specs.Short.{bend, lack, short_sine, short_versine};
