@@ -115,7 +115,8 @@ form_read line (says.Segment x1 y1 x2 y2) h s =
     rw (le-ltb 256 (length line) h, s.text) (rw (number_read _ s.a, number_read _ s.b, number_read _ s.c, number_read _ s.d))
 form_read line (says.Arc e) h s =
     rw (le-ltb 256 (length line) h, s.text)
-    (rw (number_read _ s.x, number_read _ s.y, number_read _ s.r, number_read _ s.s, number_read _ s.turn, number_read _ s.start, number_read _ s.end, mark_read _ e.ccw, mark_read _ e.closed, mark_read _ e.is_ellipse))
+    (rw (number_read _ s.x, number_read _ s.y, number_read _ s.r, number_read _ s.s)
+    (rw (number_read _ s.turn, number_read _ s.start, number_read _ s.end, mark_read _ e.ccw, mark_read _ e.closed, mark_read _ e.is_ellipse)))
 form_read line (says.Query a b depth) h s =
     rw (le-ltb 256 (length line) h, s.text) (rw (record_read _ s.first, record_read _ s.second, digit_read _ depth s.digit))
 

@@ -25,9 +25,9 @@ arc_of line = do
   (end, g) ← number_of f
   (ccw, h) ← mark_of g
   (closed, i) ← mark_of h
-  (is_ellipse, j) ← mark_of i
+  (ellipse, j) ← mark_of i
   _ ← end_of j
-  Some (says.Arc (record { center = record { x = x; y = y }; radius = radius; radius_b = radius_b; rotation = rotation; start = start; end = end; ccw = ccw; closed = closed; is_ellipse = is_ellipse }))
+  Some (says.Arc (record { center = record { x = x; y = y }; radius = radius; radius_b = radius_b; rotation = rotation; start = start; end = end; ccw = ccw; closed = closed; is_ellipse = ellipse }))
 
 unfoldable pub query_of : List ℕ → Option Line
 query_of line = do

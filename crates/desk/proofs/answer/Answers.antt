@@ -45,7 +45,8 @@ returns-in-Some-Arc c =
 pub returns-in-Some-Query : goal.returns-in-Some-Query
 returns-in-Some-Query c =
     let z = c.args in
-    rw (c.in-Some-Query.is, rw c.in-Some-Query.is at c.in-Some-Query.field-0-is) (query-answered z.table z.number z.room.now z.out.now c.if-room-out.false _ _ _ _ _ _ refl refl c.query-printed.ensures)
+    rw (c.in-Some-Query.is, rw c.in-Some-Query.is at c.in-Some-Query.field-0-is)
+    (query-answered z.table z.number z.room.now z.out.now c.if-room-out.false _ _ _ _ _ _ refl refl c.query-printed.ensures)
 
 pub returns-in-None : goal.returns-in-None
 returns-in-None c =
