@@ -1,16 +1,12 @@
 -- How long the lines are at most, and where the next one starts.
-use mathlib.Core.List.{List, [], ◌∷◌}
+use mathlib.Core.List.{List, [], ◌∷◌, append_assoc}
 use Prim.Native.Nat.{ℕ, ◌+◌, ◌*◌, ◌≤◌}
 use native.Mathlib.Omega.{arith}
 use lib.ListN.{length, length-append}
 use lib.Ieee.{Float, binary64, to_bits}
 use Rattle.hits.specs.declared.CurveHit.{CurveHit}
-use Rattle.digits.specs.Spliced.{Put}
 use Rattle.digits.proofs.Digits.{hex-length, decimals-length}
 use Rattle.desk_print.specs.Printed.{longest_numbers, longest_hit_line, count, number, head, numbers, hit_line, hit_lines}
-
-pub within : {l : List ℕ} {at : ℕ} {bytes : List ℕ} {next : ℕ} {m : List ℕ} {k : ℕ} → Put l at bytes next m → length bytes ≤ k → next ≤ at + k
-within p h = omega arith
 
 pub count-length : (n : ℕ) → length (count n) ≤ 21
 unfolding count
@@ -36,3 +32,5 @@ pub hits_length : (line i : ℕ) (hs : List CurveHit) → length (hit_lines line
 unfolding hit_lines
 hits_length line i [] = omega arith
 hits_length line i (h ∷ hs) = omega (arith, length-append (hit_line line i h) (hit_lines line (i + 1) hs), hit_length line i h, hits_length line (i + 1) hs)
+
+pub ruleset lengths = (append_assoc, length-append, count-length, number-length, head-length, numbers-length)

@@ -1,81 +1,81 @@
-// Lines of output, written to lent memory.
+// Lines of output, appended to a list of fixed capacity.
 #![tactic(auto)]
 
-ghost use Rattle.std.specs.Prelude.{[], ◌∷◌, ◌+◌, ◌<◌, ◌≤◌, length};
-ghost use Rattle.digits.specs.Spliced.{Put};
+ghost use Rattle.std.specs.Prelude.{◌≡◌, ◌+◌, ◌≤◌, ◌++◌};
+ghost use Rattle.arrayvec.specs.ArrayVec.{array_vec_len};
 ghost use Rattle.desk_print.specs.Printed.{longest_numbers, longest_hit_line, count, number, head, numbers, refused_line, hit_line, end_line};
 
+use arrayvec::ArrayVec;
 use hits::{CurveHit, Tally};
 
-fn put_byte(out: &mut [u8], at: usize, b: u8) -> usize
-    requires { at < length out.old }
-    ensures { Put out.old at (b ∷ []) result out.new }
+#[tactic(auto, unfolding(crate::specs::Printed::count))]
+fn put_count<const N: usize>(out: &mut ArrayVec<u8, N>, n: u64)
+    requires { array_vec_len out.old + 21 ≤ N }
+    ensures { out.new.items ≡ out.old.items ++ count n }
 {
-    out[at] = b;
-    at + 1
+    out.push(b'\t');
+    digits::put_decimal(out, n);
 }
 
-fn put_count(out: &mut [u8], at: usize, n: u64) -> usize
-    requires { at + 21 ≤ length out.old }
-    ensures { Put out.old at (count n) result out.new }
+#[tactic(auto, unfolding(crate::specs::Printed::number))]
+fn put_number<const N: usize>(out: &mut ArrayVec<u8, N>, x: f64)
+    requires { array_vec_len out.old + 17 ≤ N }
+    ensures { out.new.items ≡ out.old.items ++ number x }
 {
-    let next = put_byte(out, at, b'\t');
-    digits::put_decimal(out, next, n)
-}
-
-fn put_number(out: &mut [u8], at: usize, x: f64) -> usize
-    requires { at + 17 ≤ length out.old }
-    ensures { Put out.old at (number x) result out.new }
-{
-    let next = put_byte(out, at, b'\t');
-    digits::put_hex(out, next, scalar::to_bits(x))
+    out.push(b'\t');
+    digits::put_hex(out, scalar::to_bits(x));
 }
 
 // The letter that a line begins with, and its line number.
-fn put_head(out: &mut [u8], at: usize, letter: u8, line: u64) -> usize
-    requires { at + 22 ≤ length out.old }
-    ensures { Put out.old at (head letter line) result out.new }
+#[tactic(auto, unfolding(crate::specs::Printed::head))]
+fn put_head<const N: usize>(out: &mut ArrayVec<u8, N>, letter: u8, line: u64)
+    requires { array_vec_len out.old + 22 ≤ N }
+    ensures { out.new.items ≡ out.old.items ++ head letter line }
 {
-    let next = put_byte(out, at, letter);
-    put_count(out, next, line)
+    out.push(letter);
+    put_count(out, line);
 }
 
-fn put_numbers(out: &mut [u8], at: usize, h: CurveHit) -> usize
-    requires { at + longest_numbers ≤ length out.old }
-    ensures { Put out.old at (numbers h) result out.new }
+#[tactic(auto, using(crate::proofs::Lines::lengths), unfolding(crate::specs::Printed::numbers))]
+fn put_numbers<const N: usize>(out: &mut ArrayVec<u8, N>, h: CurveHit)
+    requires { array_vec_len out.old + longest_numbers ≤ N }
+    ensures { out.new.items ≡ out.old.items ++ numbers h }
 {
-    let after_a = put_number(out, at, h.t_a);
-    let after_b = put_number(out, after_a, h.t_b);
-    let after_x = put_number(out, after_b, h.pos.x);
-    put_number(out, after_x, h.pos.y)
+    put_number(out, h.t_a);
+    put_number(out, h.t_b);
+    put_number(out, h.pos.x);
+    put_number(out, h.pos.y);
 }
 
-pub fn refused_line(out: &mut [u8], line: u64, refusal: u8) -> usize
-    requires { 44 ≤ length out.old }
-    ensures { Put out.old 0 (refused_line line refusal) result out.new }
+#[tactic(auto, using(crate::proofs::Lines::lengths), unfolding(crate::specs::Printed::refused_line))]
+pub fn refused_line<const N: usize>(out: &mut ArrayVec<u8, N>, line: u64, refusal: u8)
+    requires { array_vec_len out.old + 44 ≤ N }
+    ensures { out.new.items ≡ out.old.items ++ refused_line line refusal }
 {
-    let after_head = put_head(out, 0, b'R', line);
-    let after_refusal = put_count(out, after_head, refusal as u64);
-    put_byte(out, after_refusal, b'\n')
+    put_head(out, b'R', line);
+    put_count(out, refusal as u64);
+    out.push(b'\n');
 }
 
-pub fn hit_line(out: &mut [u8], at: usize, line: u64, i: u64, h: CurveHit) -> usize
-    requires { at + longest_hit_line ≤ length out.old }
-    ensures { Put out.old at (hit_line line i h) result out.new }
+#[tactic(auto, using(crate::proofs::Lines::lengths), unfolding(crate::specs::Printed::hit_line))]
+pub fn hit_line<const N: usize>(out: &mut ArrayVec<u8, N>, line: u64, i: u64, h: CurveHit)
+    requires { array_vec_len out.old + longest_hit_line ≤ N }
+    ensures { out.new.items ≡ out.old.items ++ hit_line line i h }
 {
-    let after_head = put_head(out, at, b'H', line);
-    let after_i = put_count(out, after_head, i);
-    let after_numbers = put_numbers(out, after_i, h);
-    put_byte(out, after_numbers, b'\n')
+    put_head(out, b'H', line);
+    put_count(out, i);
+    put_numbers(out, h);
+    out.push(b'\n');
 }
 
-pub fn end_line(out: &mut [u8], at: usize, line: u64, t: Tally) -> usize
-    requires { at + 86 ≤ length out.old }
-    ensures { Put out.old at (end_line line t) result out.new }
+#[tactic(auto, using(crate::proofs::Lines::lengths), unfolding(crate::specs::Printed::end_line))]
+pub fn end_line<const N: usize>(out: &mut ArrayVec<u8, N>, line: u64, t: Tally)
+    requires { array_vec_len out.old + 86 ≤ N }
+    ensures { out.new.items ≡ out.old.items ++ end_line line t }
 {
-    let after_head = put_head(out, at, b'E', line);
-    let after_hits = put_count(out, after_head, t.hits as u64);
-    let after_brackets = put_count(out, after_hits, t.brackets as u64);
-    let after_evaluations = put_count(out, after_brackets, t.evaluations as u64);
-    put_byte(out, after_evaluations, b'\n')
+    put_head(out, b'E', line);
+    put_count(out, t.hits as u64);
+    put_count(out, t.brackets as u64);
+    put_count(out, t.evaluations as u64);
+    out.push(b'\n');
 }

@@ -1,4 +1,3 @@
 -- What is proved of the definitions in specs/.
-pub mod Spliced
 pub mod Digits
 pub mod Values

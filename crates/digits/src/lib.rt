@@ -1,63 +1,45 @@
-// Digits of numbers as bytes: written to lent memory, and the value of one that is read.
+// Digits of numbers as bytes: appended to a list of fixed capacity, and the value of one that is read.
 #![tactic(auto)]
 
-ghost use Rattle.std.specs.Prelude.{◌≡◌, ◌+◌, ◌<◌, ◌≤◌, length};
+ghost use Rattle.std.specs.Prelude.{◌≡◌, ◌+◌, ◌<◌, ◌≤◌, ◌++◌};
+ghost use Rattle.arrayvec.specs.ArrayVec.{array_vec_len};
 ghost use Rattle.digits.specs.Hex.{hex_digit, hex, hex_value};
 ghost use Rattle.digits.specs.Decimal.{decimal, digit_value};
-ghost use Rattle.digits.specs.Spliced.{Put};
+
+use arrayvec::ArrayVec;
 
 fn hex_digit(v: u64) -> u8
     requires { v < 16 }
     ensures { result ≡ hex_digit v }
 {
     if v < 10 {
-        return 48 + v as u8;
+        return b'0' + v as u8;
     }
-    87 + v as u8
+    b'a' - 10 + v as u8
 }
 
-// The 16 hex digits of n, the lowest first since a division gives that one.
-pub fn put_hex(out: &mut [u8], at: usize, n: u64) -> usize
-    requires { at + 16 ≤ length out.old }
-    ensures { Put out.old at (hex n) result out.new }
+// The 16 hex digits of n, the highest first.
+pub fn put_hex<const N: usize>(out: &mut ArrayVec<u8, N>, n: u64)
+    requires { array_vec_len out.old + 16 ≤ N }
+    ensures { out.new.items ≡ out.old.items ++ hex n }
 {
-    let mut rest = n;
-    let mut left: usize = 16;
-    while 0 < left {
-        left -= 1;
-        out[at + left] = hex_digit(rest % 16);
-        rest = rest / 16;
+    for digit in (0..16u32).rev() {
+        out.push(hex_digit((n >> (4 * digit)) % 16));
     }
-    at + 16
 }
 
-// How many decimal digits n has.
-fn decimal_length(n: u64) -> usize
-    ensures { result ≡ length (decimal n) }
+// The decimal digits of n. A division gives the lowest, so each goes before those that stand there.
+pub fn put_decimal<const N: usize>(out: &mut ArrayVec<u8, N>, n: u64)
+    requires { array_vec_len out.old + 20 ≤ N }
+    ensures { out.new.items ≡ out.old.items ++ decimal n }
 {
+    let first = out.len();
     let mut rest = n;
-    let mut digits: usize = 1;
     while 10 <= rest {
-        digits += 1;
-        rest = rest / 10;
+        out.insert(first, b'0' + (rest % 10) as u8);
+        rest /= 10;
     }
-    digits
-}
-
-// The decimal digits of n, the lowest first.
-pub fn put_decimal(out: &mut [u8], at: usize, n: u64) -> usize
-    requires { at + 20 ≤ length out.old }
-    ensures { Put out.old at (decimal n) result out.new }
-{
-    let digits = decimal_length(n);
-    let mut rest = n;
-    let mut left = digits;
-    while 0 < left {
-        left -= 1;
-        out[at + left] = 48 + (rest % 10) as u8;
-        rest = rest / 10;
-    }
-    at + digits
+    out.insert(first, b'0' + rest as u8);
 }
 
 // The value of a decimal digit.

@@ -1,17 +1,9 @@
--- `put_decimal` writes the last digit first. The invariant: with the digits that are left, the buffer is as promised.
-use mathlib.Core.Path.{◌≡◌}
-use Prim.Native.Nat.{◌≤◌}
-use lib.ListN.{length}
-use Rattle.digits.specs.Decimal.{decimals}
-use Rattle.digits.specs.Spliced.{spliced}
+-- The invariant: the digits that are left, then those that stand, are all.
+use Rattle.digits.proofs.Digits.{Written}
 use Rattle.digits.proofs.put_decimal.Given as goal
 
-abbrev pub invariant-loop-left : goal.invariant-loop-left
-invariant-loop-left l =
-    (l.left ≤ 20)
-    × (length l.out ≡ length l.initial.out)
-    × (l.left ≡ length (decimals l.left l.rest))
-    × (spliced l.out l.at (decimals l.left l.rest) ≡ spliced l.initial.out l.at (decimals 20 l.n))
+abbrev pub invariant-loop-rest : goal.invariant-loop-rest
+invariant-loop-rest g l = Written l.initial.out.items l.out.items l.rest l.n
 
-abbrev pub decreases-loop-left : goal.decreases-loop-left
-decreases-loop-left l = l.left
+abbrev pub decreases-loop-rest : goal.decreases-loop-rest
+decreases-loop-rest g l = l.rest

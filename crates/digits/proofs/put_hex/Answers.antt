@@ -1,23 +1,14 @@
-use mathlib.Core.Path.{◌≡◌, refl, sym, ap, ◌∙◌}
-use Prim.Native.Nat.{ℕ, ◌+◌}
-use native.Mathlib.Omega.{arith}
-use lib.ListN.{length-set}
-use Rattle.digits.proofs.Digits.{hex-length, hex-step, hex-done}
+use Rattle.std.proofs.Common.{sym, ◌∙◌, arith}
+use Rattle.digits.proofs.Digits.{hex-next, hex-none}
 use Rattle.digits.proofs.put_hex.Goals as goal
 
-pub loop-left-init : goal.loop-left-init
-loop-left-init c = (omega arith, refl, refl)
-
-pub loop-left-preserved : goal.loop-left-preserved
-loop-left-preserved c =
-    let l = c.loop-left in
-    let z = c.args in
-    let step = hex-step l.out z.at l.left l.rest (omega arith) (omega arith) in
-    (omega arith, simp length-set l.invariant.1, rw c.hex_digit.ensures (step ∙ l.invariant.2))
+pub loop-digit-preserved : goal.loop-digit-preserved
+loop-digit-preserved g c =
+    let l = c.loop-digit in
+    let next = hex-next l.out.items l.digit c.args.n (omega arith) in
+    record { room = omega arith; all = rw (c.push.ensures.items, c.hex_digit.ensures) (next ∙ l.invariant.all) }
 
 pub returns : goal.returns
-returns c =
-    let l = c.loop-left in
-    let z = c.args in
-    let none : l.left ≡ 0 = omega arith in
-    record { place = ap (λ (i : ℕ). z.at + i) (sym (hex-length 16 z.n)); out = hex-done l.out z.at l.left l.rest none ∙ l.invariant.2 }
+returns g c =
+    let l = c.loop-digit in
+    sym (hex-none l.out.items l.digit c.args.n (omega arith)) ∙ l.invariant.all
