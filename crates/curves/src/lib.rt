@@ -34,3 +34,10 @@ pub enum Curve {
     Segment(f64, f64, f64, f64),
     Arc(Arc),
 }
+
+// What stands in a place of a list of fixed capacity that no curve has taken.
+impl Default for Curve {
+    fn default() -> Self {
+        Curve::Segment(0.0, 0.0, 0.0, 0.0)
+    }
+}

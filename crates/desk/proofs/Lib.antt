@@ -1,5 +1,4 @@
 -- What is proved of the definitions in specs/.
-pub mod Tables
 pub mod Hits
 pub mod Needs
 pub mod Told

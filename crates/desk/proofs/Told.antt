@@ -4,11 +4,11 @@ use mathlib.Core.Bool.{Bool, false}
 use mathlib.Core.List.{List, ◌++◌}
 use Prim.Native.Nat.{ℕ, ◌≤◌}
 use native.Mathlib.Nat.{le_trans}
-use lib.Dec.{eqb}
+use native.Mathlib.Omega.{arith}
 use lib.ListN.{length}
 use lib.Ieee.{Float}
-use Rattle.hits.specs.Hit.{written}
 use Rattle.hits.specs.Need.{short}
+use Rattle.hits.specs.Stands.{Stands}
 use Rattle.hits.proofs.Needs.{not_short}
 use Rattle.hits.specs.declared.Tally.{Tally}
 use Rattle.hits.specs.Outcome.{tally}
@@ -46,14 +46,27 @@ module _ (a b : Curve) (depth : ℕ) (room : List Float) (enough : room_need ≤
   abbrev Tells : Answer → List Float → Type 0
   Tells told after = Crossed asked (curves_outcome a b depth).hits (tally_counts (tally (curves_outcome a b depth))) room told after
 
-  pub cross_counted : (u : Tally) (after : List Float) → Tells (hunted_told (Ok u)) after
-      → (pair_refusal a b depth ≡ accepted) × (u ≡ tally (curves_outcome a b depth)) × (after ≡ written (curves_outcome a b depth).hits room) × (length (curves_outcome a b depth).hits ≤ most_hits)
-  cross_counted u after x =
-      let (none, is, hits) = crossed-counted asked (curves_outcome a b depth).hits (tally (curves_outcome a b depth)) room after u x in
-      let passed = unrefused faults (deep depth) too_short none in
-      (sym pair_refusal_lem ∙ none, is, hits, hits_most a b depth (not-deep depth passed.shallow))
+  -- what is known where it gives counts
+  pub record Counted (t : Tally) (after : List Float) : Type 0 where
+    pub taken : accepted ≡ pair_refusal a b depth
+    pub counts : t ≡ tally (curves_outcome a b depth)
+    pub stand : Stands (curves_outcome a b depth).hits room t.hits after
+    pub few : t.hits ≤ most_hits
 
-  pub cross_told : (r : Refusal) (after : List Float) → Tells (hunted_told (Err r)) after → (pair_refusal a b depth ≡ number_of r) × (eqb (pair_refusal a b depth) accepted ≡ false) × (after ≡ room)
+  pub cross_counted : (t : Tally) (after : List Float) → Tells (hunted_told (Ok t)) after → Counted t after
+  cross_counted t after x =
+      let o = curves_outcome a b depth in
+      let (none, is, hits) = crossed-counted asked o.hits (tally o) room after t x in
+      let count : t.hits ≡ length o.hits = ap (λ (u : Tally). u.hits) is in
+      let passed = unrefused faults (deep depth) too_short none in
+      record {
+        taken = sym none ∙ pair_refusal_lem;
+        counts = is;
+        stand = record { count = count; numbers = hits };
+        few = omega (arith, hits_most a b depth (not-deep depth passed.shallow));
+      }
+
+  pub cross_told : (r : Refusal) (after : List Float) → Tells (hunted_told (Err r)) after → (number_of r ≡ pair_refusal a b depth) × (after ≡ room)
   cross_told r after x =
       let (is, some, hits) = crossed-told asked (curves_outcome a b depth).hits (tally (curves_outcome a b depth)) room after r x in
-      (sym pair_refusal_lem ∙ is, ap (λ (n : ℕ). eqb n accepted) (sym pair_refusal_lem) ∙ some, hits)
+      (sym is ∙ pair_refusal_lem, hits)

@@ -1,6 +1,6 @@
 -- 01, 'The program arcdesk and its lines': "A line is tested for 7, then 9 or 8, then 1, 2, 3." The table of refusals: 7 "malformed line", 8 "record number not in the table",
 -- 9 "a 65th record", 3 "depth above 3 (arc pairs, and every query line)". The room has the need of every query, so that 4 is no refusal of a line: no room is short here.
-use Rattle.std.specs.Prelude.{ℕ, false, cond, ◌&&◌, ◌++◌, ltb, Option, Some, None}
+use Rattle.std.specs.Prelude.{ℕ, false, cond, ◌&&◌, ◌++◌, ltb, length, Option, Some, None}
 use Rattle.curves.specs.declared.Curve.{Curve}
 use Rattle.curves.specs.declared.Curve.TheVariants as curve
 use Rattle.checks.specs.Given.{curve_numbers}
@@ -12,7 +12,7 @@ use Rattle.desk.specs.Table.{most, held, record_at}
 
 -- an `S` or an `A`
 unfoldable pub record_refusal : Table → Curve → ℕ
-record_refusal t c = cond (ltb t.count most) (numbers_refusal (curve_numbers c)) table_full
+record_refusal t c = cond (ltb (length t) most) (numbers_refusal (curve_numbers c)) table_full
 
 -- the numbers of two records, and the depth
 unfoldable pub pair_refusal : Curve → Curve → ℕ → ℕ
@@ -20,7 +20,7 @@ pair_refusal a b depth = refusal_of (curve_numbers a ++ curve_numbers b) (deep d
 
 -- an `X`
 unfoldable pub query_refusal : Table → ℕ → ℕ → ℕ → ℕ
-query_refusal t i j depth = cond (held t.count i && held t.count j) (pair_refusal (record_at t i) (record_at t j) depth) no_such_record
+query_refusal t i j depth = cond (held t i && held t j) (pair_refusal (record_at t i) (record_at t j) depth) no_such_record
 
 -- `accepted` for none
 abbrev pub refusal : Table → Option Line → ℕ

@@ -1,69 +1,46 @@
 // The crossings of two records, and their lines.
-ghost use Rattle.std.specs.Prelude.{◌*◌, ◌≤◌, ◌/◌, length};
+ghost use Rattle.std.specs.Prelude.{◌≡◌, ◌+◌, ◌*◌, ◌≤◌, ◌/◌, ◌++◌, length, OnOk, OnErr};
+ghost use Rattle.arrayvec.specs.ArrayVec.{array_vec_len};
 ghost use Rattle.hits.specs.Hit.{hit_size};
 ghost use Rattle.hits.specs.Stands.{OfHits};
+ghost use Rattle.checks.specs.Refusal.{refusal_told};
 ghost use Rattle.calls_curves.specs.Curves.{curves_outcome};
-ghost use Rattle.digits.specs.Spliced.{Put};
-ghost use Rattle.desk.specs.Table.{record_at};
-ghost use Rattle.desk.specs.Refused.{pair_refusal, query_refusal};
 ghost use Rattle.desk_print.specs.Printed.{longest_hit_line, hit_lines};
-ghost use Rattle.desk.specs.Reply.{crossed, unless};
+ghost use Rattle.desk.specs.Refused.{pair_refusal};
+ghost use Rattle.desk.specs.Reply.{crossed};
 ghost use Rattle.desk.specs.Answer.{room_need, out_need, Shows};
 
-use crate::{Table, records};
+use arrayvec::ArrayVec;
 use checks::Refusal;
 use curves::Curve;
 
 // The lines of the hits in the room, numbered from 1.
-fn put_hits(out: &mut [u8], line: u64, room: &[f64], hits: usize) -> usize
-    requires { (hits ≤ length room.now / hit_size) × (longest_hit_line * hits ≤ length out.old) }
-    ensures { OfHits hits room.now (λ hs. Put out.old 0 (hit_lines line 1 hs) result out.new) }
+fn put_hits<const N: usize>(out: &mut ArrayVec<u8, N>, line: u64, room: &[f64], hits: usize)
+    requires room { hits ≤ length room.now / hit_size }
+    requires out { array_vec_len out.old + longest_hit_line * hits ≤ N }
+    ensures { OfHits hits room.now (λ hs. out.new.items ≡ out.old.items ++ hit_lines line 1 hs) }
 {
-    let mut at: usize = 0;
-    let mut i: usize = 0;
-    while i < hits {
-        let h = hits::hit_at(room, i);
-        at = desk_print::hit_line(out, at, line, (i + 1) as u64, h);
-        i += 1;
-    }
-    at
-}
-
-// The crossings of two records.
-fn cross(a: Curve, b: Curve, depth: u32, line: u64, room: &mut [f64], out: &mut [u8]) -> usize
-    requires { (room_need ≤ length room.old) × (out_need ≤ length out.old) }
-    ensures { Shows (unless (pair_refusal a b depth) line (crossed line (curves_outcome a b depth))) room.old out.old result room.new out.new }
-{
-    match calls_curves::intersect(a, b, depth, room) {
-        Ok(t) => {
-            let at = put_hits(out, line, room, t.hits);
-            desk_print::end_line(out, at, line, t)
-        }
-        Err(r) => desk_print::refused_line(out, line, u8::from(r)),
+    for i in 0..hits {
+        desk_print::hit_line(out, line, (i + 1) as u64, hits::hit_at(room, i));
     }
 }
 
-// A query: the lines to print, and none of it changes the table.
-pub fn query(
-    table: Table,
-    i: usize,
-    j: usize,
+pub fn cross<const N: usize>(
+    a: Curve,
+    b: Curve,
     depth: u32,
     line: u64,
     room: &mut [f64],
-    out: &mut [u8],
-) -> usize
-    requires { (room_need ≤ length room.old) × (out_need ≤ length out.old) }
-    ensures { Shows (unless (query_refusal table i j depth) line (crossed line (curves_outcome (record_at table i) (record_at table j) depth)))
-        room.old out.old result room.new out.new }
+    out: &mut ArrayVec<u8, N>,
+) -> Result<(), Refusal>
+    requires room { room_need ≤ length room.old }
+    requires out { array_vec_len out.old + out_need ≤ N }
+    ensures refused { refusal_told result ≡ pair_refusal a b depth }
+    ensures ok { OnOk result (Shows (crossed line (curves_outcome a b depth)) room.old out.old.items room.new out.new.items) }
+    ensures err { OnErr result ((room.new ≡ room.old) × (out.new ≡ out.old)) }
 {
-    let count = table.count;
-    let first = records::held(count, i);
-    let second = records::held(count, j);
-    if first & second {
-        let a = records::record_at(table, i);
-        let b = records::record_at(table, j);
-        return cross(a, b, depth, line, room, out);
-    }
-    desk_print::refused_line(out, line, u8::from(Refusal::NoSuchRecord))
+    let t = calls_curves::intersect(a, b, depth, room)?;
+    put_hits(out, line, room, t.hits);
+    desk_print::end_line(out, line, t);
+    Ok(())
 }

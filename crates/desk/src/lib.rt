@@ -1,17 +1,18 @@
-// One line of arcdesk: with the table so far it gives the table after it and the bytes to print.
+// One line of arcdesk: it changes the table, and the bytes to print go to the end of a list.
 #![tactic(auto)]
 
-ghost use Rattle.std.specs.Prelude.{◌≡◌};
-ghost use Rattle.desk.specs.Table.{empty};
-ghost use Rattle.desk.specs.Answer.{answer};
+ghost use Rattle.std.specs.Prelude.{◌≡◌, ◌+◌, ◌-◌, ◌≤◌, length, cond, Some, None, OnOk, OnErr};
+ghost use Rattle.arrayvec.specs.ArrayVec.{array_vec_len};
+ghost use Rattle.checks.specs.Refusal.{refusal_told};
 
 mod crossings;
-mod records;
 
-use checks::Refusal;
+use arrayvec::ArrayVec;
+use checks::{Faults, Refusal};
 use curves::Curve;
 use desk_line::Line;
 use hits::HIT;
+use std::marker::Model;
 
 // How many records there can be.
 pub const MOST: usize = 64;
@@ -21,82 +22,109 @@ pub const ROOM_NEED: usize = HIT * 2048;
 
 pub const OUT_NEED: usize = 262144;
 
-// A place of the table.
-#[derive(Clone, Copy)]
-pub struct Place {
-    pub curve: Curve,
-}
-
-// The records taken so far stand in the first `count` places.
-#[derive(Clone, Copy)]
+// The records taken so far, in order.
+#[derive(Drop)]
 pub struct Table {
-    pub places: [Place; MOST],
-    pub count: usize,
+    records: ArrayVec<Curve, MOST>,
 }
 
-// The table after a line, how many bytes are to be printed, and whether the room or the buffer was too short to do anything.
-#[derive(Clone, Copy)]
-pub struct Answered {
-    pub table: Table,
-    pub printed: usize,
-    pub short: bool,
+impl Model for Table {
+    ghost use Rattle.std.specs.Prelude.{List};
+    ghost use Rattle.curves.specs.declared.Curve.{Curve};
+
+    ghost Value = { List Curve };
+
+    ghost view = { λ t. t.records.items };
 }
 
-pub fn empty() -> Table
-    ensures { result ≡ empty }
-{
-    let blank = Place {
-        curve: Curve::Segment(0.0, 0.0, 0.0, 0.0),
-    };
-    Table {
-        places: [blank; MOST],
-        count: 0,
-    }
-}
+// The room, or what is left of the list, is too short for some line.
+#[derive(Clone, Copy, Debug, PartialEq, Eq)]
+pub struct Short;
 
-// The table, the number of the line and the line. The bytes to print go to `out`, and a query's hits to `room`.
-pub fn answer(
-    table: Table,
-    number: u64,
-    line: Option<Line>,
-    room: &mut [f64],
-    out: &mut [u8],
-) -> Answered
-    ensures { record { answered = result; room = room.new; out = out.new } ≡ answer table number line room.old out.old }
-{
-    if (room.len() < ROOM_NEED) | (out.len() < OUT_NEED) {
-        return Answered {
-            table,
-            printed: 0,
-            short: true,
-        };
-    }
-    match line {
-        Some(Line::Segment(x1, y1, x2, y2)) => {
-            records::keep(table, Curve::Segment(x1, y1, x2, y2), number, out)
+impl Table {
+    ghost use Rattle.desk.specs.Table.{empty, held, record_at, stored};
+    ghost use Rattle.desk.specs.Refused.{record_refusal, refusal};
+    ghost use Rattle.desk.specs.Reply.{taken, grown};
+    ghost use Rattle.desk.specs.Answer.{room_need, out_need, answer, Shows};
+
+    pub fn new() -> Self
+        ensures { result ≡ empty }
+    {
+        Table {
+            records: ArrayVec::new(),
         }
-        Some(Line::Arc(a)) => records::keep(table, Curve::Arc(a), number, out),
-        Some(
+    }
+
+    // The records are numbered from 1.
+    #[tactic(auto, unfolding(crate::specs::Table::held))]
+    fn get(&self, number: usize) -> Option<Curve>
+        ensures { result ≡ cond (held self.now number) (Some (record_at self.now number)) None }
+    {
+        self.records.get(number.checked_sub(1)?).copied()
+    }
+
+    #[tactic(auto, unfolding(crate::specs::Refused::record_refusal))]
+    fn keep(&mut self, c: Curve) -> Result<(), Refusal>
+        ensures refused { refusal_told result ≡ record_refusal self.old c }
+        ensures ok { OnOk result (self.new ≡ stored self.old c) }
+        ensures err { OnErr result (self.new ≡ self.old) }
+    {
+        if self.records.is_full() {
+            return Err(Refusal::TableFull);
+        }
+        Faults::none().curve(c).refusal(false, false)?;
+        self.records.push(c);
+        Ok(())
+    }
+
+    // What a line does that is not refused.
+    #[tactic(auto, using(crate::proofs::Outcomes::unchanged), unfolding(crate::specs::Refused::query_refusal))]
+    fn take<const N: usize>(
+        &mut self,
+        number: u64,
+        line: Option<Line>,
+        room: &mut [f64],
+        out: &mut ArrayVec<u8, N>,
+    ) -> Result<(), Refusal>
+        requires room { room_need ≤ length room.old }
+        requires out { array_vec_len out.old + out_need ≤ N }
+        ensures refused { refusal_told result ≡ refusal self.old line }
+        ensures ok { OnOk result ((self.new ≡ grown self.old line) × Shows (taken self.old number line) room.old out.old.items room.new out.new.items) }
+        ensures err { OnErr result ((self.new ≡ self.old) × (room.new ≡ room.old) × (out.new ≡ out.old)) }
+    {
+        match line.ok_or(Refusal::MalformedLine)? {
+            Line::Segment(x1, y1, x2, y2) => self.keep(Curve::Segment(x1, y1, x2, y2)),
+            Line::Arc(a) => self.keep(Curve::Arc(a)),
             Line::Query {
                 first,
                 second,
                 depth,
-            },
-        ) => {
-            let printed = crossings::query(table, first, second, depth, number, room, out);
-            Answered {
-                table,
-                printed,
-                short: false,
+            } => {
+                let a = self.get(first).ok_or(Refusal::NoSuchRecord)?;
+                let b = self.get(second).ok_or(Refusal::NoSuchRecord)?;
+                crossings::cross(a, b, depth, number, room, out)
             }
         }
-        None => {
-            let printed = desk_print::refused_line(out, number, u8::from(Refusal::MalformedLine));
-            Answered {
-                table,
-                printed,
-                short: false,
-            }
+    }
+
+    // The number of a line and what it says; none is a malformed one. A query's hits go to the room.
+    #[tactic(auto, using(crate::proofs::Outcomes::unchanged), unfolding(crate::specs::Answer::answer, crate::specs::Reply::shown, crate::specs::Reply::table_after))]
+    pub fn answer<const N: usize>(
+        &mut self,
+        number: u64,
+        line: Option<Line>,
+        room: &mut [f64],
+        out: &mut ArrayVec<u8, N>,
+    ) -> Result<(), Short>
+        ensures { record { result = result; table = self.new; room = room.new; out = out.new.items }
+            ≡ answer self.old number line room.old (N - array_vec_len out.old) out.old.items }
+    {
+        if room.len() < ROOM_NEED || out.remaining_capacity() < OUT_NEED {
+            return Err(Short);
         }
+        if let Err(refusal) = self.take(number, line, room, out) {
+            desk_print::refused_line(out, number, refusal.into());
+        }
+        Ok(())
     }
 }

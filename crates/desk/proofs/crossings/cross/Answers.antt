@@ -1,47 +1,39 @@
 -- `cross` writes what the query on two curves tells.
-use mathlib.Core.Path.{◌≡◌, sym, ap, ◌∙◌}
-use native.Mathlib.Omega.{arith}
-use lib.ListN.{length}
-use Rattle.hits.proofs.Rooms.{written_none}
-use Rattle.hits.specs.declared.Tally.{Tally}
-use Rattle.digits.proofs.Spliced.{put_then}
+use Rattle.std.proofs.Common.{rules, length, ℕ, ap, arith, length-append, append_assoc}
 use Rattle.calls_curves.specs.Curves.{curves_outcome}
-use Rattle.desk_print.proofs.Lines.{within, hits_length}
+use Rattle.desk_print.proofs.Lines.{hits_length}
 use Rattle.desk.proofs.Told.{cross_counted, cross_told}
 use Rattle.desk.proofs.crossings.cross.Goals as goal
 
-pub put_hits-at-requires : goal.put_hits-at-requires
-put_hits-at-requires c =
+pub returns-in_err-t-clause-refused : goal.returns-in_err-t-clause-refused
+returns-in_err-t-clause-refused g c =
     let z = c.args in
-    let t = c.in-Ok.t in
-    let told = c.in-Ok.ensures in
-    let (none, is, hits, few) = cross_counted z.a z.b z.depth z.room.now c.requires.0 t _ told in
-    let count : t.hits ≡ length (curves_outcome z.a z.b z.depth).hits = ap (λ (t : Tally). t.hits) is in
-    (omega arith, omega arith)
+    search (rules, cross_told z.a z.b z.depth z.room.now c.requires.room _ _ c.in_err-t.ensures)
+
+pub returns-in_err-t-clause-err : goal.returns-in_err-t-clause-err
+returns-in_err-t-clause-err g c =
+    let z = c.args in
+    search (rules, cross_told z.a z.b z.depth z.room.now c.requires.room _ _ c.in_err-t.ensures)
+
+pub put_hits-requires : goal.put_hits-requires
+put_hits-requires g c =
+    let z = c.args in
+    let k = cross_counted z.a z.b z.depth z.room.now c.requires.room c.in_ok-t.t _ c.in_ok-t.ensures in
+    (search rules, (omega arith, omega arith))
 
 pub end_line-requires : goal.end_line-requires
-end_line-requires c =
+end_line-requires g c =
     let z = c.args in
-    let t = c.in-Ok.t in
-    let told = c.in-Ok.ensures in
-    let (none, is, hits, few) = cross_counted z.a z.b z.depth z.room.now c.requires.0 t _ told in
-    let count : t.hits ≡ length (curves_outcome z.a z.b z.depth).hits = ap (λ (t : Tally). t.hits) is in
-    let put = c.put_hits-at.ensures _ z.room.now (record { count = count; numbers = hits }) in
-    omega (arith, within put (hits_length _ _ _))
+    let k = cross_counted z.a z.b z.depth z.room.now c.requires.room c.in_ok-t.t _ c.in_ok-t.ensures in
+    (search rules, omega (arith, simp length-append at (ap {B = ℕ} length (c.put_hits.ensures _ _ k.stand)), hits_length z.line 1 (curves_outcome z.a z.b z.depth).hits))
 
-pub returns-in-Ok : goal.returns-in-Ok
-returns-in-Ok c =
+pub returns-clause-refused : goal.returns-clause-refused
+returns-clause-refused g c =
     let z = c.args in
-    let t = c.in-Ok.t in
-    let told = c.in-Ok.ensures in
-    let (none, is, hits, few) = cross_counted z.a z.b z.depth z.room.now c.requires.0 t _ told in
-    let count : t.hits ≡ length (curves_outcome z.a z.b z.depth).hits = ap (λ (t : Tally). t.hits) is in
-    let put = c.put_hits-at.ensures _ z.room.now (record { count = count; numbers = hits }) in
-    rw none (record { bytes = put_then put (omega arith) (rw is at c.end_line.ensures); hits = hits })
+    (cross_counted z.a z.b z.depth z.room.now c.requires.room c.in_ok-t.t _ c.in_ok-t.ensures).taken
 
-pub returns-in-Err : goal.returns-in-Err
-returns-in-Err c =
+pub returns-clause-ok : goal.returns-clause-ok
+returns-clause-ok g c =
     let z = c.args in
-    let told = c.in-Err.ensures in
-    let (is, some, hits) = cross_told z.a z.b z.depth z.room.now c.requires.0 c.in-Err.r _ told in
-    rw (some, is, ← c.from.ensures) (record { bytes = c.refused_line.ensures; hits = hits ∙ sym (written_none _) })
+    let k = cross_counted z.a z.b z.depth z.room.now c.requires.room c.in_ok-t.t _ c.in_ok-t.ensures in
+    record { bytes = rw (c.end_line.ensures, c.put_hits.ensures _ _ k.stand, k.counts, append_assoc); hits = k.stand.numbers }

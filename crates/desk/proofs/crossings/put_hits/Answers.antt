@@ -1,31 +1,18 @@
-use mathlib.Core.Path.{refl}
-use Prim.Native.Nat.{◌+◌}
-use native.Mathlib.Omega.{arith}
-use Rattle.digits.proofs.Spliced.{left_step, left_none}
-use Rattle.desk_print.specs.Printed.{hit_line}
-use Rattle.desk_print.proofs.Lines.{within, hit_length}
+use Rattle.std.proofs.Common.{ap, length, ◌+◌, append_assoc, length-append, append-nil, arith}
+use Rattle.desk_print.proofs.Lines.{hit_length}
 use Rattle.desk.proofs.Hits.{lines_step, lines_past}
 use Rattle.desk.proofs.crossings.put_hits.Goals as goal
 
-pub loop-i-init : goal.loop-i-init
-loop-i-init c = (omega arith, omega arith, refl, λ hs lent s. record { place = refl; out = refl })
-
 pub loop-i-preserved : goal.loop-i-preserved
-loop-i-preserved c =
+loop-i-preserved g c =
     let l = c.loop-i in
-    let z = c.args in
-    let h = c.hit_at-h.result in
-    let p = c.hit_line-at.ensures in
-    let next = within p (hit_length _ _ _) in (
-      omega arith,
-      omega arith,
-      omega arith,
-      λ hs lent s. left_step {a = hit_line z.line (l.i + 1) h} (omega arith)
-          (rw (lines_step z.line hs lent s l.i h c.loop-i-test.true c.hit_at-h.ensures) at (l.invariant.3 hs lent s)) p,
-    )
+    let h = c.hit_at.result in
+    record {
+      room = omega (arith, simp length-append at (ap length c.hit_line.ensures), hit_length c.args.line (l.i + 1) h);
+      lines = λ hs lent s. rw (c.hit_line.ensures, append_assoc, ← lines_step c.args.line hs lent s l.i h (omega arith) c.hit_at.ensures) (l.invariant.lines hs lent s);
+    }
 
 pub returns : goal.returns
-returns c =
+returns g c =
     let l = c.loop-i in
-    let z = c.args in
-    λ hs lent s. left_none (rw (lines_past z.line (l.i + 1) hs l.i (omega (arith, s.count))) at (l.invariant.3 hs lent s))
+    λ hs lent s. rw (lines_past c.args.line (l.i + 1) hs l.i (omega (arith, s.count)), append-nil) at (l.invariant.lines hs lent s)
