@@ -26,7 +26,7 @@ first-before (b ∷ bytes) = go (eqb b newline) refl (first-before bytes)
         moved false = refl
 
 -- the rest of the bytes is behind them
-parted : (bytes : List ℕ) → bytes ≡ first bytes ++ drop (length (first bytes)) bytes
+pub parted : (bytes : List ℕ) → bytes ≡ first bytes ++ drop (length (first bytes)) bytes
 unfolding first
 parted [] = refl
 parted (b ∷ bytes) = go (eqb b newline) (parted bytes)

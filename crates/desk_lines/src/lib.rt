@@ -1,67 +1,55 @@
-// The lines of an input whose bytes come in pieces of any size: the bytes of the line at hand stand at the start of a buffer.
+// The lines of an input whose bytes come in pieces of any size: what is kept of the line at hand.
 #![tactic(auto)]
 
-ghost use Rattle.std.specs.Prelude.{◌≡◌, [], ◌∷◌, ◌++◌, min, ltb, length, take};
-ghost use Rattle.desk_lines.specs.Hand.{most, kept, Holds, Takes};
+ghost use Rattle.std.specs.Prelude.{◌≡◌, ◌≤◌, ◌++◌, ◌∷◌, [], ltb, length};
+ghost use Rattle.arrayvec.specs.ArrayVec.{array_vec_len};
+ghost use Rattle.desk_lines.specs.Hand.{most, kept, Takes};
+
+use arrayvec::ArrayVec;
 
 // How many bytes of a line are kept. A line above 256 is malformed, however long it is.
 pub const KEPT: usize = 257;
 
-// Up to where a piece is read, how many bytes of the line at hand are kept then, and whether a newline ended it.
+// Up to where a piece is read, and whether a newline ended the line at hand.
 #[derive(Clone, Copy)]
 pub struct Taken {
     pub read: usize,
-    pub kept: usize,
     pub whole: bool,
 }
 
-// No more bytes are kept than the buffer has.
-pub fn within(kept: usize) -> usize
-    ensures { result ≡ min kept most }
-{
-    if kept < KEPT { kept } else { KEPT }
-}
-
 // Whether there is anything of the line at hand.
-pub fn begun(kept: usize) -> bool
-    ensures { result ≡ ltb 0 kept }
+pub fn begun(line: &ArrayVec<u8, KEPT>) -> bool
+    ensures { result ≡ ltb 0 (array_vec_len line.now) }
 {
-    0 < kept
+    0 < line.len()
 }
 
 // One byte more of the line at hand, where it is kept.
-fn with_byte(line: &mut [u8], n: usize, b: u8) -> usize
-    requires { length line.old ≡ most }
-    ensures { Holds (kept (take n line.old ++ b ∷ [])) line.old result line.new }
+fn keep(line: &mut ArrayVec<u8, KEPT>, b: u8)
+    ensures kept { line.new.items ≡ kept (line.old.items ++ b ∷ []) }
+    ensures few { array_vec_len line.new ≤ most }
 {
-    if KEPT <= n {
-        return KEPT;
+    if line.len() < KEPT {
+        line.push(b);
     }
-    line[n] = b;
-    n + 1
 }
 
-// The bytes of the piece from `from` on go to the line at hand, up to a newline, which is read too, or to the end.
-pub fn take_line(line: &mut [u8], kept: usize, piece: &[u8], from: usize) -> Taken
-    requires { length line.old ≡ most }
-    ensures { Takes kept piece.now from line.old result line.new }
+// The bytes of the piece go to the line at hand, up to a newline, which is read too, or to the end.
+pub fn take_line(line: &mut ArrayVec<u8, KEPT>, piece: &[u8]) -> Taken
+    ensures { Takes line.old.items piece.now result line.new.items }
 {
-    let mut n = within(kept);
-    let mut at = from;
-    while at < piece.len() {
-        if piece[at] == b'\n' {
+    prove!(line.len() <= KEPT);
+    for (i, &b) in piece.iter().enumerate() {
+        if b == b'\n' {
             return Taken {
-                read: at + 1,
-                kept: n,
+                read: i + 1,
                 whole: true,
             };
         }
-        n = with_byte(line, n, piece[at]);
-        at += 1;
+        keep(line, b);
     }
     Taken {
-        read: at,
-        kept: n,
+        read: piece.len(),
         whole: false,
     }
 }
