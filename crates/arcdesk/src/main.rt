@@ -1,41 +1,21 @@
 // Reads records and queries from standard input, one a line, and prints the answers. Which bytes are printed is said and proved in
-// `desk_stream`, of pieces of any size. Here the pieces are only read, and what each step leaves in `out` is only written. At the first
-// write or read that fails a line on standard error says why, and nothing more is answered.
+// `desk_stream`, of pieces of any size. Here the pieces are only read, and what each step leaves for printing is only written. At the
+// first write or read that fails a line on standard error says why, and nothing more is answered.
 #![tactic(auto)]
 
-ghost use Rattle.std.specs.Prelude.{◌≤◌, length};
-ghost use Rattle.desk_lines.specs.Hand.{most};
+ghost use Rattle.std.specs.Prelude.{is_ok};
 ghost use Rattle.desk_output.specs.Reading.{start};
-ghost use Rattle.desk_stream.specs.Step.{reading_of};
 ghost use Rattle.desk_stream.specs.Run.{KnowsPart, KnowsSome};
 
-use desk::{OUT_NEED, ROOM_NEED};
-use desk_lines::KEPT;
-use desk_stream::Stream;
+use desk_stream::{Buffers, Stream};
 use std::io::{Cursor, Read, Stderr, Stdin, Stdout, Write};
 use std::{io, str};
 
-// Where the lines come from, where the answers go, and where it is said that a read or a write failed.
-#[derive(Clone, Copy)]
-struct Streams {
-    input: Stdin,
-    output: Stdout,
-    errors: Stderr,
-}
-
-// What is known after a piece, and whether all that its steps left for printing was written.
-#[derive(Clone, Copy)]
-struct Taken {
-    stream: Stream,
-    written: bool,
-}
-
-// What is known after a turn, whether more may come, and whether nothing has failed.
-#[derive(Clone, Copy)]
-struct Turn {
-    stream: Stream,
-    more: bool,
-    well: bool,
+// Why nothing more is answered.
+#[derive(Drop)]
+enum Failure {
+    Output(io::Error),
+    Input(io::Error),
 }
 
 // An error's text in the system's words alone: what stands behind them is the error's number.
@@ -48,7 +28,11 @@ fn without_number(text: &[u8]) -> &str {
 }
 
 // A line on standard error: what could not be done, and why. Where it cannot be written, nothing is left to say that on.
-fn fail(errors: Stderr, what: &str, e: io::Error) {
+fn tell(mut errors: Stderr, failure: Failure) {
+    let (what, e) = match failure {
+        Failure::Output(e) => ("the output cannot be written", e),
+        Failure::Input(e) => ("the input cannot be read", e),
+    };
     let mut text = Cursor::new([0u8; 128]);
     let _ = write!(text, "{e}");
     let len = text.position() as usize;
@@ -57,125 +41,69 @@ fn fail(errors: Stderr, what: &str, e: io::Error) {
     let _ = eprintln!(errors; "arcdesk: {what}: {why}");
 }
 
-// Whether all was written.
-fn print(to: Streams, out: &[u8], n: usize) -> bool
-    requires { n ≤ length out.now }
-{
-    match to.output.write_all(&out[..n]) {
-        Ok(()) => true,
-        Err(e) => {
-            fail(to.errors, "the output cannot be written", e);
-            false
-        }
-    }
+fn print(mut output: Stdout, out: &[u8]) -> Result<(), Failure> {
+    output.write_all(out).map_err(Failure::Output)
 }
 
 // The bytes of a piece, a step at a time. What a step leaves for printing is printed at once; where that fails, no step follows.
 fn piece(
-    to: Streams,
-    s: Stream,
+    output: Stdout,
+    stream: &mut Stream,
     bytes: &[u8],
-    line: &mut [u8; KEPT],
-    room: &mut [f64; ROOM_NEED],
-    out: &mut [u8; OUT_NEED],
-) -> Taken
-    requires { s.kept ≤ most }
-    ensures { KnowsPart (reading_of s line.old) bytes.now result.written result.stream line.new }
+    lent: &mut Buffers,
+) -> Result<(), Failure>
+    ensures { KnowsPart stream.old bytes.now (is_ok result) stream.new }
 {
-    let mut t = s;
-    let mut at: usize = 0;
-    let mut written = true;
-    while at < bytes.len() && written {
-        let r = desk_stream::step(t, bytes, at, line, room, out);
-        written = print(to, out, r.printed);
-        let after = r.stream;
-        t = after;
-        at = r.read;
+    let mut rest = bytes;
+    while !rest.is_empty() {
+        rest = stream.step(rest, lent);
+        print(output, lent.out.as_slice())?;
     }
-    Taken { stream: t, written }
+    Ok(())
 }
 
+// A piece, and how many bytes it has.
 fn read_piece(
-    streams: Streams,
-    s: Stream,
-    line: &mut [u8; KEPT],
-    room: &mut [f64; ROOM_NEED],
-    out: &mut [u8; OUT_NEED],
-) -> Turn
-    requires { s.kept ≤ most }
-    ensures { KnowsSome (reading_of s line.old) result.stream line.new }
+    mut input: Stdin,
+    output: Stdout,
+    stream: &mut Stream,
+    lent: &mut Buffers,
+) -> Result<usize, Failure>
+    ensures { KnowsSome stream.old stream.new }
 {
     let mut buffer = [0u8; 4096];
-    let mut input = streams.input;
-    match input.read(&mut buffer) {
-        Ok(n) => {
-            let t = piece(streams, s, &buffer[..n], line, room, out);
-            let after = t.stream;
-            Turn {
-                stream: after,
-                more: (0 < n) & t.written,
-                well: t.written,
-            }
-        }
-        Err(e) => {
-            fail(streams.errors, "the input cannot be read", e);
-            Turn {
-                stream: s,
-                more: false,
-                well: false,
-            }
-        }
-    }
+    let n = input.read(&mut buffer).map_err(Failure::Input)?;
+    piece(output, stream, &buffer[..n], lent)?;
+    Ok(n)
 }
 
 // A proved loop has to end, and nothing says that the input does. So the turns are counted, up to a number that no run reaches.
 fn read_all(
-    streams: Streams,
-    line: &mut [u8; KEPT],
-    room: &mut [f64; ROOM_NEED],
-    out: &mut [u8; OUT_NEED],
-) -> Turn
-    ensures { KnowsSome start result.stream line.new }
+    input: Stdin,
+    output: Stdout,
+    stream: &mut Stream,
+    lent: &mut Buffers,
+) -> Result<(), Failure>
+    ensures { KnowsSome stream.old stream.new }
 {
-    let mut t = Turn {
-        stream: desk_stream::begin(),
-        more: true,
-        well: true,
-    };
     for _ in 0..u64::MAX {
-        if !t.more {
+        if read_piece(input, output, stream, lent)? == 0 {
             break;
         }
-        let s = t.stream;
-        t = read_piece(streams, s, line, room, out);
     }
-    t
+    Ok(())
 }
 
-// The input has ended.
-fn finish(
-    to: Streams,
-    s: Stream,
-    line: &[u8; KEPT],
-    room: &mut [f64; ROOM_NEED],
-    out: &mut [u8; OUT_NEED],
-) {
-    let n = desk_stream::finish(s, line, room, out);
-    print(to, out, n);
+fn run(input: Stdin, output: Stdout) -> Result<(), Failure> {
+    let mut stream = Stream::begin();
+    let mut lent = Buffers::new();
+    read_all(input, output, &mut stream, &mut lent)?;
+    stream.finish(&mut lent);
+    print(output, lent.out.as_slice())
 }
 
 fn main(rt: HostRuntime) {
-    let streams = Streams {
-        input: rt.stdin(),
-        output: rt.stdout(),
-        errors: rt.stderr(),
-    };
-    let mut line = [0u8; KEPT];
-    let mut room = [0.0; ROOM_NEED];
-    let mut out = [0u8; OUT_NEED];
-    let t = read_all(streams, &mut line, &mut room, &mut out);
-    let s = t.stream;
-    if t.well {
-        finish(streams, s, &line, &mut room, &mut out);
+    if let Err(failure) = run(rt.stdin(), rt.stdout()) {
+        tell(rt.stderr(), failure);
     }
 }

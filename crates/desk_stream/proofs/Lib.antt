@@ -1,5 +1,4 @@
 -- What is proved of the definitions in specs/.
 pub mod Before
-pub mod Steps
 pub mod Runs
 pub mod Pieces

@@ -1,75 +1,50 @@
--- What one step leaves: it takes the bytes of a piece from a place on, up to and with the first newline, or all. The bytes of the line at hand stand at the start of `line`, the bytes to
--- print at the start of `out`, a query's hits at the start of `room`; what is behind them is as lent.
-use Rattle.std.specs.Prelude.{ℕ, ◌+◌, cond, List, ltb, length, take, drop, Float}
-use Rattle.rooms.specs.Laid.{over}
+-- What one step leaves: it takes the bytes of a piece, up to and with the first newline, or all. The bytes to print are those of `out`, a query's hits stand at the start of `room`, and
+-- what is behind them is as lent.
+use Rattle.std.specs.Prelude.{ℕ, cond, List, [], ltb, length, drop, Float}
 use Rattle.hits.specs.Hit.{written}
-use Rattle.digits.specs.Spliced.{spliced}
 use Rattle.desk_lines.specs.Hand.{ends, first, hand_of}
 use Rattle.desk_line.specs.Read.{read_line}
-use Rattle.desk.specs.Table.{empty}
 use Rattle.desk.specs.Reply.{Shown, shown, table_after}
 use Rattle.desk_output.specs.Reading.{Reading, following}
-use Rattle.desk_stream.specs.declared.Stream.{Stream}
-use Rattle.desk_stream.specs.declared.Progress.{Progress}
 
-abbrev pub beginning : Stream
-beginning = record { table = empty; number = 1; kept = 0 }
-
--- what the code's state and the buffer of the line stand for
-abbrev pub reading_of : Stream → List ℕ → Reading
-reading_of s line = record { table = s.table; number = s.number; line = take s.kept line }
-
+-- what is known then, the bytes of the piece that are left, the room and the bytes to print
 pub record After : Type 0 where
-  pub step : Progress
-  pub line : List ℕ
+  pub reading : Reading
+  pub rest : List ℕ
   pub room : List Float
   pub out : List ℕ
 
 -- the line at hand is whole
-abbrev pub answered : Stream → ℕ → List ℕ → List ℕ → List Float → List ℕ → After
-answered s read hand line room out =
-    let shows = shown s.table s.number (read_line hand) in
+abbrev pub answered : Reading → List ℕ → List ℕ → List Float → After
+answered q rest hand room =
+    let shows = shown q.table q.number (read_line hand) in
     record {
-      step = record {
-        stream = record { table = table_after s.table (read_line hand); number = following s.number; kept = 0 };
-        read = read;
-        printed = length shows.bytes;
-      };
-      line = over hand line;
+      reading = record { table = table_after q.table (read_line hand); number = following q.number; line = [] };
+      rest = rest;
       room = written shows.hits room;
-      out = spliced out 0 shows.bytes;
+      out = shows.bytes;
     }
 
 -- more of it is to come
-abbrev pub waiting : Stream → ℕ → List ℕ → List ℕ → List Float → List ℕ → After
-waiting s read hand line room out =
-    record {
-      step = record { stream = record { table = s.table; number = s.number; kept = length hand }; read = read; printed = 0 };
-      line = over hand line;
-      room = room;
-      out = out;
-    }
+abbrev pub waiting : Reading → List ℕ → List ℕ → List Float → After
+waiting q rest hand room = record { reading = record { table = q.table; number = q.number; line = hand }; rest = rest; room = room; out = [] }
 
 -- THE PROMISE of a step
-unfoldable pub stepped : Stream → List ℕ → ℕ → List ℕ → List Float → List ℕ → After
-stepped s piece from line room out =
-    let bytes = drop from piece in
-    let hand = hand_of s.kept line bytes in
-    let read = from + length (first bytes) in
-    cond (ends bytes) (answered s read hand line room out) (waiting s read hand line room out)
+unfoldable pub stepped : Reading → List ℕ → List Float → After
+stepped q piece room =
+    let hand = hand_of q.line piece in
+    let rest = drop (length (first piece)) piece in
+    cond (ends piece) (answered q rest hand room) (waiting q rest hand room)
 
 -- ---- the input has ended
 
 pub record Finished : Type 0 where
-  pub printed : ℕ
   pub room : List Float
   pub out : List ℕ
 
-abbrev pub finishing : Shown → List Float → List ℕ → Finished
-finishing s room out = record { printed = length s.bytes; room = written s.hits room; out = spliced out 0 s.bytes }
+abbrev pub finishing : Shown → List Float → Finished
+finishing s room = record { room = written s.hits room; out = s.bytes }
 
 -- THE PROMISE of the end
-unfoldable pub finished : Stream → List ℕ → List Float → List ℕ → Finished
-finished s line room out =
-    let hand = take s.kept line in
-    cond (ltb 0 (length hand)) (finishing (shown s.table s.number (read_line hand)) room out) (record { printed = 0; room = room; out = out })
+unfoldable pub finished : Reading → List Float → Finished
+finished q room = cond (ltb 0 (length q.line)) (finishing (shown q.table q.number (read_line q.line)) room) (record { room = room; out = [] })

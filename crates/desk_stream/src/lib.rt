@@ -1,141 +1,104 @@
 // The input of arcdesk, in pieces of any size: lines are found in it and answered, a step at a time. It reads and writes nothing itself.
 #![tactic(auto)]
 
-ghost use Rattle.std.specs.Prelude.{◌≡◌, ◌≤◌, length, take};
-ghost use Rattle.desk_line.specs.Read.{read_line};
-ghost use Rattle.desk.specs.Answer.{room_need, out_need};
+ghost use Rattle.std.specs.Prelude.{◌≡◌, ◌≤◌, [], length};
 ghost use Rattle.desk_lines.specs.Hand.{most};
-ghost use Rattle.desk_output.specs.Reading.{following};
-ghost use Rattle.desk_stream.specs.Step.{beginning, stepped, finished};
+ghost use Rattle.desk_line.specs.Read.{read_line};
+ghost use Rattle.desk.specs.Reply.{shown, table_after};
+ghost use Rattle.desk_output.specs.Reading.{start};
 
+use arrayvec::ArrayVec;
 use desk::{OUT_NEED, ROOM_NEED, Table};
-use desk_line::Line;
 use desk_lines::KEPT;
+use std::marker::Model;
 
-// The table, the number of the line at hand, and how many of its bytes are kept.
-#[derive(Clone, Copy)]
+// What a step is lent: a room for the hits of a query, and a list for the bytes to print.
+#[derive(Drop)]
+pub struct Buffers {
+    pub room: [f64; ROOM_NEED],
+    pub out: ArrayVec<u8, OUT_NEED>,
+}
+
+impl Buffers {
+    pub fn new() -> Self {
+        Buffers {
+            room: [0.0; ROOM_NEED],
+            out: ArrayVec::new(),
+        }
+    }
+}
+
+// The table, the number of the line at hand, and what is kept of it.
+#[derive(Drop)]
 pub struct Stream {
-    pub table: Table,
-    pub number: u64,
-    pub kept: usize,
+    table: Table,
+    number: u64,
+    line: ArrayVec<u8, KEPT>,
 }
 
-// What is known after a step, up to where the piece is read, and how many bytes are to be printed.
-#[derive(Clone, Copy)]
-pub struct Progress {
-    pub stream: Stream,
-    pub read: usize,
-    pub printed: usize,
+impl Model for Stream {
+    ghost use Rattle.desk_output.specs.Reading.{Reading};
+
+    ghost Value = { Reading };
+
+    ghost view = { λ s. record { table = s.table; number = s.number; line = s.line.items } };
+
+    ghost use Rattle.std.specs.Prelude.{◌≤◌, length};
+    ghost use Rattle.desk_lines.specs.Hand.{most};
+
+    ghost invariant = { λ s. length s.line.items ≤ most };
 }
 
-pub fn begin() -> Stream
-    ensures { result ≡ beginning }
-{
-    Stream {
-        table: desk::empty(),
-        number: 1,
-        kept: 0,
+impl Stream {
+    ghost use Rattle.desk_stream.specs.Step.{stepped, finishing, finished};
+
+    pub fn begin() -> Self
+        ensures { result ≡ start }
+    {
+        Stream {
+            table: Table::new(),
+            number: 1,
+            line: ArrayVec::new(),
+        }
     }
-}
 
-fn next_number(number: u64) -> u64
-    ensures { result ≡ following number }
-{
-    if number < 0xffff_ffff_ffff_ffff {
-        return number + 1;
+    // The line at hand is whole.
+    #[tactic(auto, unfolding(desk::specs::Answer::answer))]
+    fn answer(&mut self, lent: &mut Buffers)
+        requires { lent.old.out.items ≡ [] }
+        ensures stream { self.new ≡ record { table = table_after self.old.table (read_line self.old.line); number = self.old.number; line = self.old.line } }
+        ensures lent { record { room = lent.new.room; out = lent.new.out.items } ≡ finishing (shown self.old.table self.old.number (read_line self.old.line)) lent.old.room }
+    {
+        let says = desk_line::read(self.line.as_slice());
+        self.table
+            .answer(self.number, says, &mut lent.room, &mut lent.out)
+            .unwrap();
     }
-    number
-}
 
-// The line at hand: the first n bytes of its buffer.
-fn read_line(line: &[u8], n: usize) -> Option<Line>
-    requires { n ≤ length line.now }
-    ensures { result ≡ read_line (take n line.now) }
-{
-    desk_line::read(&line[..n])
-}
-
-// A step, in slices that are long enough.
-fn step_in(
-    s: Stream,
-    piece: &[u8],
-    from: usize,
-    line: &mut [u8],
-    room: &mut [f64],
-    out: &mut [u8],
-) -> Progress
-    requires { (length line.old ≡ most) × (room_need ≤ length room.old) × (out_need ≤ length out.old) }
-    ensures { record { step = result; line = line.new; room = room.new; out = out.new }
-        ≡ stepped s piece.now from line.old room.old out.old }
-{
-    let table = s.table;
-    let t = desk_lines::take_line(line, s.kept, piece, from);
-    let kept = t.kept;
-    if t.whole {
-        let a = desk::answer(table, s.number, read_line(line, kept), room, out);
-        let after = a.table;
-        let stream = Stream {
-            table: after,
-            number: next_number(s.number),
-            kept: 0,
-        };
-        return Progress {
-            stream,
-            read: t.read,
-            printed: a.printed,
-        };
+    // A step takes the bytes of the piece up to and with a newline, or all, and gives back those that are left. The bytes to print stand in `lent.out`.
+    #[tactic(auto, unfolding(crate::specs::Step::stepped, desk_output::specs::Reading::following))]
+    pub fn step<'a>(&mut self, piece: &'a [u8], lent: &mut Buffers) -> &'a [u8]
+        ensures step { record { reading = self.new; rest = result.now; room = lent.new.room; out = lent.new.out.items } ≡ stepped self.old piece.now lent.old.room }
+        ensures few { length self.old.line ≤ most }
+    {
+        lent.out.clear();
+        let taken = desk_lines::take_line(&mut self.line, piece);
+        if taken.whole {
+            self.answer(lent);
+            self.number = self.number.saturating_add(1);
+            self.line.clear();
+        }
+        &piece[taken.read..]
     }
-    let stream = Stream {
-        table,
-        number: s.number,
-        kept,
-    };
-    Progress {
-        stream,
-        read: t.read,
-        printed: 0,
+
+    // The input has ended. A last line without its newline counts.
+    #[tactic(auto, unfolding(crate::specs::Step::finished))]
+    pub fn finish(mut self, lent: &mut Buffers)
+        ensures { record { room = lent.new.room; out = lent.new.out.items } ≡ finished self lent.old.room }
+    {
+        lent.out.clear();
+        if desk_lines::begun(&self.line) {
+            self.answer(lent);
+        }
     }
-}
-
-// A step takes the bytes of the piece from `from` on up to and with a newline, or all. The bytes to print go to `out`.
-pub fn step(
-    s: Stream,
-    piece: &[u8],
-    from: usize,
-    line: &mut [u8; KEPT],
-    room: &mut [f64; ROOM_NEED],
-    out: &mut [u8; OUT_NEED],
-) -> Progress
-    ensures { record { step = result; line = line.new; room = room.new; out = out.new }
-        ≡ stepped s piece.now from line.old room.old out.old }
-{
-    step_in(s, piece, from, line, room, out)
-}
-
-// The end, in slices that are long enough.
-fn finish_in(s: Stream, line: &[u8], room: &mut [f64], out: &mut [u8]) -> usize
-    requires { (length line.now ≡ most) × (room_need ≤ length room.old) × (out_need ≤ length out.old) }
-    ensures { record { printed = result; room = room.new; out = out.new }
-        ≡ finished s line.now room.old out.old }
-{
-    let table = s.table;
-    let kept = desk_lines::within(s.kept);
-    if desk_lines::begun(kept) {
-        let a = desk::answer(table, s.number, read_line(line, kept), room, out);
-        return a.printed;
-    }
-    0
-}
-
-// The input has ended. A last line without its newline counts. Gives how many bytes are to be printed.
-pub fn finish(
-    s: Stream,
-    line: &[u8; KEPT],
-    room: &mut [f64; ROOM_NEED],
-    out: &mut [u8; OUT_NEED],
-) -> usize
-    ensures { record { printed = result; room = room.new; out = out.new }
-        ≡ finished s line.now room.old out.old }
-{
-    finish_in(s, line, room, out)
 }

@@ -1,26 +1,25 @@
--- `arcdesk::piece` takes all the bytes of a piece, or those up to a step whose output could not be written: after each step what is known is what the bytes up to there leave.
+-- `piece` takes all the bytes of a piece, or those up to a step whose output could not be written.
+use Rattle.desk_stream.proofs.Pieces.{going_start, rest-shorter, going_more, going_part}
 use Rattle.std.proofs.Common.{arith}
-use Rattle.desk_stream.specs.Step.{reading_of}
-use Rattle.desk_stream.proofs.Pieces.{knows_none, step_prints, step_falls, step-within, step_knows}
+use Rattle.std.proofs.lemmas.Bool.Decides.{nat_tests}
+use Rattle.std.proofs.lemmas.Grind.{common_steps}
 use Rattle.arcdesk.proofs.piece.Goals as goal
 
-pub loop-at-init : goal.loop-at-init
-loop-at-init c = record { in_piece = omega arith; knows = knows_none _ _ c.requires }
+pub loop-rest-init : goal.loop-rest-init
+loop-rest-init c = going_start c.args.stream.now c.args.bytes.now
 
-pub print-written-requires : goal.print-written-requires
-print-written-requires c = step_prints (reading_of c.args.s c.args.line.now) _ _ _ _ _ _ _ _ _ _ c.step-r.ensures
+pub loop-rest-smaller : goal.loop-rest-smaller
+loop-rest-smaller c =
+    rest-shorter c.args.stream.now c.args.bytes.now c.loop-rest.rest.now _ _ _ c.step-rest.ensures.step (grind (arith, nat_tests))
 
-pub loop-at-smaller : goal.loop-at-smaller
-loop-at-smaller c =
-    let q = reading_of c.args.s c.args.line.now in
-    let further = step_falls q _ _ _ _ _ _ _ _ _ _ c.step-r.ensures (omega arith) in
-    let within = step-within q _ _ _ _ _ _ _ _ _ _ c.step-r.ensures c.loop-at.invariant.in_piece in
-    omega (arith, further, within)
+pub loop-rest-preserved : goal.loop-rest-preserved
+loop-rest-preserved c =
+    going_more c.args.stream.now c.args.bytes.now c.loop-rest.rest.now _ _ _ c.step-rest.ensures.step c.step-rest.ensures.few c.loop-rest.invariant
 
-pub loop-at-preserved : goal.loop-at-preserved
-loop-at-preserved c =
-    let q = reading_of c.args.s c.args.line.now in
-    record {
-      in_piece = step-within q _ _ _ _ _ _ _ _ _ _ c.step-r.ensures c.loop-at.invariant.in_piece;
-      knows = step_knows q _ _ _ _ _ _ _ _ _ _ c.step-r.ensures c.loop-at.invariant.knows;
-    }
+pub returns-in_err-print : goal.returns-in_err-print
+returns-in_err-print c =
+    let g = going_more c.args.stream.now c.args.bytes.now c.loop-rest.rest.now _ _ _ c.step-rest.ensures.step c.step-rest.ensures.few c.loop-rest.invariant in
+    going_part c.args.stream.now c.args.bytes.now c.step-rest.result.now _ g _ (λ e. grind (arith, common_steps))
+
+pub returns : goal.returns
+returns c = going_part c.args.stream.now c.args.bytes.now c.loop-rest.rest.now _ c.loop-rest.invariant _ (λ e. grind (arith, nat_tests))

@@ -1,15 +1,10 @@
-use Rattle.std.proofs.Common.{◌-◌, ◌≤◌, length, take}
-use Rattle.desk_stream.specs.Step.{reading_of}
-use Rattle.desk_stream.specs.Run.{Knows}
+-- What is known is what the bytes up to those that are left leave.
+use Rattle.std.proofs.Common.{length}
+use Rattle.desk_stream.proofs.Pieces.{Going}
 use Rattle.arcdesk.proofs.piece.Given as goal
 
--- what is known is what the bytes up to here leave
-abbrev pub invariant-loop-at : goal.invariant-loop-at
-invariant-loop-at l = record {
-  in_piece : l.at ≤ length l.bytes;
-  knows : Knows (reading_of l.fn.s l.fn.line) (take l.at l.bytes) l.t l.line;
-}
+abbrev pub invariant-loop-rest : goal.invariant-loop-rest
+invariant-loop-rest l = Going l.fn.stream l.bytes l.rest l.stream
 
--- the bytes that are left
-abbrev pub decreases-loop-at : goal.decreases-loop-at
-decreases-loop-at l = length l.bytes - l.at
+abbrev pub decreases-loop-rest : goal.decreases-loop-rest
+decreases-loop-rest l = length l.rest

@@ -1,7 +1,6 @@
-use Rattle.desk_output.specs.Reading.{start}
+-- What is known is what all the bytes so far leave.
 use Rattle.desk_stream.specs.Run.{KnowsSome}
 use Rattle.arcdesk.proofs.read_all.Given as goal
 
--- what is known is what all the bytes so far leave
 abbrev pub invariant-loop : goal.invariant-loop
-invariant-loop l = KnowsSome start l.t.stream l.line
+invariant-loop l = KnowsSome l.fn.stream l.stream
