@@ -2,7 +2,6 @@
 use Rattle.desk_stream.proofs.Pieces.{going_start, rest-shorter, going_more, going_part}
 use Rattle.std.proofs.Common.{arith}
 use Rattle.std.proofs.lemmas.Bool.Decides.{nat_tests}
-use Rattle.std.proofs.lemmas.Grind.{common_steps}
 use Rattle.arcdesk.proofs.piece.Goals as goal
 
 pub loop-rest-init : goal.loop-rest-init
@@ -16,10 +15,10 @@ pub loop-rest-preserved : goal.loop-rest-preserved
 loop-rest-preserved c =
     going_more c.args.stream.now c.args.bytes.now c.loop-rest.rest.now _ _ _ c.step-rest.ensures.step c.step-rest.ensures.few c.loop-rest.invariant
 
-pub returns-in_err-print : goal.returns-in_err-print
-returns-in_err-print c =
+pub returns-in-Err : goal.returns-in-Err
+returns-in-Err c =
     let g = going_more c.args.stream.now c.args.bytes.now c.loop-rest.rest.now _ _ _ c.step-rest.ensures.step c.step-rest.ensures.few c.loop-rest.invariant in
-    going_part c.args.stream.now c.args.bytes.now c.step-rest.result.now _ g _ (λ e. grind (arith, common_steps))
+    going_part c.args.stream.now c.args.bytes.now c.step-rest.result.now _ g _ (λ e. (cc))
 
 pub returns : goal.returns
 returns c = going_part c.args.stream.now c.args.bytes.now c.loop-rest.rest.now _ c.loop-rest.invariant _ (λ e. grind (arith, nat_tests))
