@@ -10,7 +10,7 @@ use arrayvec::ArrayVec;
 // How many bytes of a line are kept. A line above 256 is malformed, however long it is.
 pub const KEPT: usize = 257;
 
-// Up to where a piece is read, and whether a newline ended the line at hand.
+// Up to where a piece is read, and whether a newline ended the line at hand. Both are told in either case, so that this is no Option.
 #[derive(Clone, Copy)]
 pub struct Taken {
     pub read: usize,

@@ -1,4 +1,4 @@
-// Points, tangents, spans and lines for C and Rust to link: numbers and slices of numbers cross, and nothing else. The crate `export_points_c` exports them.
+// Points, tangents, spans and lines for C and Rust to link: numbers and slices of numbers cross, and nothing else, since C links them. So an arc is a slice beside its marks, an answer goes to a lent slice, and a refusal is its number. The crate `export_points_c` exports them.
 #![tactic(auto)]
 
 mod positions;

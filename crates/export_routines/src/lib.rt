@@ -1,4 +1,4 @@
-// The square root and the angles for C and Rust to link: numbers and slices of numbers cross, and nothing else. The crate `export_routines_c` exports them.
+// The square root and the angles for C and Rust to link: numbers and slices of numbers cross, and nothing else, since C links them. The crate `export_routines_c` exports them.
 #![tactic(auto)]
 
 ghost use Rattle.std.specs.Prelude.{◌≡◌, [], ◌∷◌};

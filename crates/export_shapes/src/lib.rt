@@ -1,4 +1,4 @@
-// Distances, nearest parameters, arcs and circles from points for C and Rust to link: numbers and slices of numbers cross, and nothing else. The crate `export_shapes_c` exports them.
+// Distances, nearest parameters, arcs and circles from points for C and Rust to link: numbers and slices of numbers cross, and nothing else, since C links them. So an arc is a slice beside its marks, an answer goes to a lent slice, and a refusal is its number. The crate `export_shapes_c` exports them.
 #![tactic(auto)]
 
 mod figures;

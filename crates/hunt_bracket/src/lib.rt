@@ -19,7 +19,7 @@ pub struct Frame {
     pub radii: Radii,
 }
 
-// A cell of a's span: its two angles, the values there, and whether it closes the span, so that a zero at its end counts too.
+// A cell of a's span: its two angles, the values there, and whether it closes the span, so that a zero at its end counts too. The mark hides no value: the four numbers count in either case.
 #[derive(Clone, Copy)]
 pub struct Cell {
     pub lo: f64,
