@@ -14,7 +14,8 @@ use Rattle.desk.specs.Answer.{After, answer}
 pub ruleset unchanged = (append-nil, written_none)
 
 -- NO SECOND OUTCOME: what is answered, the table, the room and the list afterwards are fixed
-pub answer_unique : (t : Table) (line : ℕ) (l : Option Line) (room : List Float) (left : ℕ) (out : List ℕ) (x y : After) → x ≡ answer t line l room left out → y ≡ answer t line l room left out
+pub answer_unique : (t : Table) (line : ℕ) (l : Option Line) (room : List Float) (left : ℕ) (out : List ℕ) (x y : After)
+    → x ≡ answer t line l room left out → y ≡ answer t line l room left out
     → (x.result ≡ y.result) × (x.table ≡ y.table) × (x.room ≡ y.room) × (x.out ≡ y.out)
 answer_unique t line l room left out x y p q =
     let same = p ∙ sym q in
