@@ -1,7 +1,7 @@
 -- From what the library tells to the numbers that an export writes.
 use mathlib.Core.Path.{◌≡◌, refl, sym, ◌∙◌}
 use mathlib.Core.Bool.{Bool, true, false, cond}
-use mathlib.Core.List.{List, ◌++◌}
+use mathlib.Core.List.{List, [], ◌∷◌, ◌++◌, append-nil}
 use Prim.Native.Nat.{ℕ}
 use lib.Dec.{eqb}
 use lib.ListN.{length}
@@ -10,11 +10,24 @@ use Rattle.checks.specs.Answer.{Answer, refused}
 use Rattle.calls_answers.specs.Floats.{floats}
 use Rattle.export_numbers.specs.Exported.{short, with_room, NumbersWritten, NumbersOut}
 
+module _ {need number : ℕ} {told : Answer} {lent lent' : List Float} where
+  -- numbers alone
+  pub numbers_out : {xs : List Float} → told ≡ record { refusal = 0; numbers = xs; counts = [] } → NumbersWritten need 0 xs lent number lent' → NumbersOut need told lent number lent'
+  unfolding NumbersOut floats
+  numbers_out {xs} e g = rw (e, append-nil xs) g
+
+  -- numbers, and a mark m that was made for the count n
+  pub marked_out : {xs : List Float} {m n : ℕ} → told ≡ record { refusal = 0; numbers = xs; counts = n ∷ [] } → m ≡ n →
+      NumbersWritten need 0 (xs ++ of_int binary64 (pos m) ∷ []) lent number lent'
+      → NumbersOut need told lent number lent'
+  unfolding NumbersOut floats
+  marked_out e m g = rw (e, ← m) g
+
 -- all that is told, as numbers
-pub numbers_out : {need number : ℕ} {xs : List Float} (told : Answer) {lent lent' : List Float} → told.refusal ≡ 0 → xs ≡ told.numbers ++ floats told.counts → length xs ≡ need
+pub told_out : {need number : ℕ} {xs : List Float} (told : Answer) {lent lent' : List Float} → told.refusal ≡ 0 → xs ≡ told.numbers ++ floats told.counts → length xs ≡ need
     → NumbersWritten (length xs) 0 xs lent number lent' → NumbersOut need told lent number lent'
 unfolding NumbersOut
-numbers_out told a v n g = rw (a, ← v, ← n) g
+told_out told a v n g = rw (a, ← v, ← n) g
 
 -- a refusal gives no number and no other value
 pub refused_out : (need : ℕ) (lent : List Float) {number n : ℕ} {told : Answer} → told ≡ refused n → number ≡ with_room n (short need (length lent)) → NumbersOut need told lent number lent
