@@ -5,7 +5,8 @@ use mathlib.Core.List.{List, [], ◌∷◌, ◌++◌, append-nil}
 use Prim.Native.Nat.{ℕ}
 use lib.Dec.{eqb}
 use lib.ListN.{length}
-use lib.Ieee.{Float}
+use lib.IntN.{pos}
+use lib.Ieee.{Float, binary64, of_int}
 use Rattle.checks.specs.Answer.{Answer, refused}
 use Rattle.calls_answers.specs.Floats.{floats}
 use Rattle.export_numbers.specs.Exported.{short, with_room, NumbersWritten, NumbersOut}
