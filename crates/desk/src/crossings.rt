@@ -14,7 +14,7 @@ use arrayvec::ArrayVec;
 use checks::Refusal;
 use curves::Curve;
 
-// The lines of the hits in the room, numbered from 1.
+// The lines of the hits in the room, numbered from 1. By index, since a line has its number.
 fn put_hits<const N: usize>(out: &mut ArrayVec<u8, N>, line: u64, room: &[f64], hits: usize)
     requires room { hits ≤ length room.now / hit_size }
     requires out { array_vec_len out.old + longest_hit_line * hits ≤ N }

@@ -107,7 +107,8 @@ impl Table {
         }
     }
 
-    // The number of a line and what it says; none is a malformed one. A query's hits go to the room.
+    // The number of a line and what it says; none is a malformed one. A query's hits go to the room. The room and the list are two parameters and no struct:
+    // any room and any capacity are taken, and `desk_stream` has the struct of those that are long enough.
     #[tactic(auto, using(crate::proofs::Outcomes::unchanged), unfolding(crate::specs::Answer::answer, crate::specs::Reply::shown, crate::specs::Reply::table_after))]
     pub fn answer<const N: usize>(
         &mut self,

@@ -47,6 +47,7 @@ fn put_numbers<const N: usize>(out: &mut ArrayVec<u8, N>, h: CurveHit)
     put_number(out, h.pos.y);
 }
 
+// The refusal by its number, as the line prints it: a line knows no call, and so not what refuses it.
 #[tactic(auto, using(crate::proofs::Lines::lengths), unfolding(crate::specs::Printed::refused_line))]
 pub fn refused_line<const N: usize>(out: &mut ArrayVec<u8, N>, line: u64, refusal: u8)
     requires { array_vec_len out.old + 44 ≤ N }

@@ -12,7 +12,7 @@ use desk::{OUT_NEED, ROOM_NEED, Table};
 use desk_lines::KEPT;
 use std::marker::Model;
 
-// What a step is lent: a room for the hits of a query, and a list for the bytes to print.
+// What a step is lent: a room for the hits of a query, and a list for the bytes to print. Apart from `Stream`, since nothing of it is known over a step.
 #[derive(Drop)]
 pub struct Buffers {
     pub room: [f64; ROOM_NEED],

@@ -1,4 +1,5 @@
-// The drawings and limits of document 01 that are run: one line a case. stdout has the lines that are right.
+// The drawings and limits of document 01 that are run: one line a case. stdout has the lines that are right. Each function is handed where it prints, as the language asks,
+// apart from what it prints of.
 #![tactic(auto)]
 
 mod copying;

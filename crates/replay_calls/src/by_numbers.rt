@@ -1,4 +1,4 @@
-// The calls that take numbers and no arc. The answer goes to `out`.
+// The calls that take numbers and no arc. The answer goes to `out`. Each function has the form that `asked::in_numbers` takes: a row, and where the numbers go.
 use replay_rows::sample::Sample;
 
 pub fn ellipse_point(s: &Sample, out: &mut [f64]) -> u32 {

@@ -1,4 +1,4 @@
-// Crossings, and a single hit. The counts go to `counts`, the numbers of the hits to `room`.
+// Crossings, and a single hit. The counts go to `counts`, the numbers of the hits to `room`. Each function has the form that `asked::in_room` takes: a row, its room and its counts.
 use arrayvec::ArrayVec;
 use replay_rows::sample::Sample;
 
