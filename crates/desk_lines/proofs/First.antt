@@ -1,5 +1,5 @@
 -- The bytes that a step takes: those before the newline and the newline; they are the next ones, and at least one.
-use mathlib.Core.Path.{◌≡◌, refl, ap, ◌∙◌}
+use mathlib.Core.Path.{◌≡◌, refl, sym, ap, ◌∙◌}
 use mathlib.Core.Bool.{Bool, true, false, cond}
 use mathlib.Core.List.{List, [], ◌∷◌, ◌++◌}
 use Prim.Native.Nat.{ℕ, ◌+◌, ◌≤◌, ◌<◌}
@@ -9,7 +9,9 @@ use lib.Dec.{eqb}
 use lib.ListN.{length, take, drop, length-append}
 use lib.Seq.{take-append_seam, take-add}
 use Rattle.desk_lines.specs.Lines.{newline}
-use Rattle.desk_lines.specs.Hand.{before, ends, first}
+use Rattle.std.specs.Prelude.{Option, Some, None, is_some, unwrap_or}
+use Rattle.std.proofs.Common.{true≢false}
+use Rattle.desk_lines.specs.Hand.{before, ends, first, read_of}
 
 pub first-before : (bytes : List ℕ) → first bytes ≡ cond (ends bytes) (before bytes ++ newline ∷ []) (before bytes)
 unfolding first before ends
@@ -24,6 +26,16 @@ first-before (b ∷ bytes) = go (eqb b newline) refl (first-before bytes)
         moved : (c : Bool) → b ∷ cond c (before bytes ++ newline ∷ []) (before bytes) ≡ cond c ((b ∷ before bytes) ++ newline ∷ []) (b ∷ before bytes)
         moved true = refl
         moved false = refl
+
+-- with no newline they are all
+pub first_all : (bytes : List ℕ) → ends bytes ≡ false → first bytes ≡ bytes
+unfolding first ends
+first_all [] e = refl
+first_all (b ∷ bytes) e = go (eqb b newline) e (first_all bytes)
+  where
+    go : (n : Bool) → cond n true (ends bytes) ≡ false → (ends bytes ≡ false → first bytes ≡ bytes) → b ∷ cond n [] (first bytes) ≡ b ∷ bytes
+    go true e more = cc
+    go false e more = ap (λ (l : List ℕ). b ∷ l) (more e)
 
 -- the rest of the bytes is behind them
 pub parted : (bytes : List ℕ) → bytes ≡ first bytes ++ drop (length (first bytes)) bytes
@@ -49,3 +61,19 @@ take-first piece at =
     let rest = drop at piece in
     take-add at (length (first rest)) piece ∙
     ap (λ (l : List ℕ). take at piece ++ l) (ap (take (length (first rest))) (parted rest) ∙ take-append_seam (first rest) (drop (length (first rest)) rest))
+
+-- ---- what the answer of `take_line` tells
+
+pub read_some : (bytes : List ℕ) (k : ℕ) → Some k ≡ read_of bytes → (ends bytes ≡ true) × (k ≡ length (first bytes))
+read_some bytes k e = go (ends bytes) refl e
+  where
+    go : (b : Bool) → ends bytes ≡ b → Some k ≡ cond b (Some (length (first bytes))) None → (ends bytes ≡ true) × (k ≡ length (first bytes))
+    go true i h = (i, ap (λ (o : Option ℕ). unwrap_or o 0) h)
+    go false i h = absurd (true≢false (ap (λ (o : Option ℕ). is_some o) h))
+
+pub read_none : (bytes : List ℕ) → None ≡ read_of bytes → (ends bytes ≡ false) × (first bytes ≡ bytes)
+read_none bytes e = go (ends bytes) refl e
+  where
+    go : (b : Bool) → ends bytes ≡ b → ◌≡◌ {A = Option ℕ} None (cond b (Some (length (first bytes))) None) → (ends bytes ≡ false) × (first bytes ≡ bytes)
+    go true i h = absurd (true≢false (sym (ap (λ (o : Option ℕ). is_some o) h)))
+    go false i h = (i, first_all bytes i)

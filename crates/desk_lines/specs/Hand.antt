@@ -1,7 +1,6 @@
 -- The line at hand in its buffer, and the bytes of a piece that go to it. 01: "at most 256 bytes without the newline", "a line above 256 bytes is malformed": so 257 bytes of a line are kept,
 -- however long it is.
-use Rattle.std.specs.Prelude.{ℕ, ◌≡◌, Bool, true, false, cond, List, [], ◌∷◌, ◌++◌, eqb, length, take}
-use Rattle.desk_lines.specs.declared.Taken.{Taken}
+use Rattle.std.specs.Prelude.{ℕ, ◌≡◌, Bool, true, false, cond, List, [], ◌∷◌, ◌++◌, eqb, length, take, Option, Some, None}
 use Rattle.desk_lines.specs.Lines.{newline}
 
 abbrev pub most : ℕ
@@ -29,8 +28,11 @@ first (b ∷ bytes) = b ∷ cond (eqb b newline) [] (first bytes)
 abbrev pub hand_of : List ℕ → List ℕ → List ℕ
 hand_of line bytes = kept (line ++ before bytes)
 
--- the line at hand with the bytes of a piece, up to where the piece is read, and whether the line is whole
-pub record Takes (line piece : List ℕ) (r : Taken) (line' : List ℕ) : Type 0 where
-  pub read : r.read ≡ length (first piece)
-  pub whole : r.whole ≡ ends piece
+-- up to where a piece is read, if it ends the line at hand
+abbrev pub read_of : List ℕ → Option ℕ
+read_of bytes = cond (ends bytes) (Some (length (first bytes))) None
+
+-- the line at hand with the bytes of a piece, and up to where that is read, if it ends the line
+pub record Takes (line piece : List ℕ) (r : Option ℕ) (line' : List ℕ) : Type 0 where
+  pub read : r ≡ read_of piece
   pub hand : line' ≡ hand_of line piece

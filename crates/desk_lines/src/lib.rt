@@ -10,13 +10,6 @@ use arrayvec::ArrayVec;
 // How many bytes of a line are kept. A line above 256 is malformed, however long it is.
 pub const KEPT: usize = 257;
 
-// Up to where a piece is read, and whether a newline ended the line at hand. Both are told in either case, so that this is no Option.
-#[derive(Clone, Copy)]
-pub struct Taken {
-    pub read: usize,
-    pub whole: bool,
-}
-
 // Whether there is anything of the line at hand.
 pub fn begun(line: &ArrayVec<u8, KEPT>) -> bool
     ensures { result ≡ ltb 0 (array_vec_len line.now) }
@@ -34,22 +27,16 @@ fn keep(line: &mut ArrayVec<u8, KEPT>, b: u8)
     }
 }
 
-// The bytes of the piece go to the line at hand, up to a newline, which is read too, or to the end.
-pub fn take_line(line: &mut ArrayVec<u8, KEPT>, piece: &[u8]) -> Taken
+// The bytes of the piece go to the line at hand, up to a newline, which is read too, or to the end. Gives up to where the piece is read, if a newline ended the line.
+pub fn take_line(line: &mut ArrayVec<u8, KEPT>, piece: &[u8]) -> Option<usize>
     ensures { Takes line.old.items piece.now result line.new.items }
 {
     prove!(line.len() <= KEPT);
     for (i, &b) in piece.iter().enumerate() {
         if b == b'\n' {
-            return Taken {
-                read: i + 1,
-                whole: true,
-            };
+            return Some(i + 1);
         }
         keep(line, b);
     }
-    Taken {
-        read: piece.len(),
-        whole: false,
-    }
+    None
 }

@@ -82,13 +82,15 @@ impl Stream {
         ensures few { length self.old.line ≤ most }
     {
         lent.out.clear();
-        let taken = desk_lines::take_line(&mut self.line, piece);
-        if taken.whole {
-            self.answer(lent);
-            self.number = self.number.saturating_add(1);
-            self.line.clear();
+        match desk_lines::take_line(&mut self.line, piece) {
+            Some(read) => {
+                self.answer(lent);
+                self.number = self.number.saturating_add(1);
+                self.line.clear();
+                &piece[read..]
+            }
+            None => &[],
         }
-        &piece[taken.read..]
     }
 
     // The input has ended. A last line without its newline counts.

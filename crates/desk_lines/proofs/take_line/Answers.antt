@@ -8,7 +8,7 @@ loop-i-init c = record { few = omega arith; hand = refl; read = omega arith; who
 pub returns-then-b-eq10 : goal.returns-then-b-eq10
 returns-then-b-eq10 c =
     let (read, whole, hand) = going-newline c.loop-i.invariant c.loop-i-test.true c.if-b-eq10.true in
-    record { read = read; whole = whole; hand = hand }
+    record { read = rw (← whole, read) refl; hand = hand }
 
 pub loop-i-preserved : goal.loop-i-preserved
 loop-i-preserved c = going_more c.loop-i.invariant c.loop-i-test.true c.if-b-eq10.false _ c.keep.ensures.kept c.keep.ensures.few
@@ -16,4 +16,4 @@ loop-i-preserved c = going_more c.loop-i.invariant c.loop-i-test.true c.if-b-eq1
 pub returns : goal.returns
 returns c =
     let (read, whole, hand) = going_end c.loop-i.invariant c.loop-i-test.false c.loop-i.auto.i-end in
-    record { read = read; whole = whole; hand = hand }
+    record { read = rw (← whole) refl; hand = hand }
