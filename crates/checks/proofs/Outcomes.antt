@@ -6,13 +6,13 @@ use Prim.Native.Nat.{ℕ}
 use native.Mathlib.Omega.{arith}
 use lib.ListN.{get_or}
 use lib.Ieee.{Float, nan}
-use Rattle.std.specs.Prelude.{eqb, Result, Ok, Err}
+use Rattle.std.specs.Prelude.{eqb, Result, Ok, Err, ⊤}
 use Rattle.curves.specs.declared.Point.{Point}
 use Rattle.curves.specs.declared.Radii.{Radii}
 use Rattle.hits.specs.declared.Tally.{Tally}
 use Rattle.checks.specs.declared.Refusal.{Refusal}
 use Rattle.checks.specs.declared.Refusal.TheVariants.{NotANumber, BeyondLimit, TooDeep, RoomTooShort, Degenerate, OutsideSpan, MalformedLine, NoSuchRecord, TableFull}
-use Rattle.checks.specs.Refusal.{accepted, number_of}
+use Rattle.checks.specs.Refusal.{accepted, number_of, refusal_told}
 use Rattle.checks.specs.Answer.{Answer, told, number_told, pair_told, radii_told, found_told, hunted_told}
 
 -- ---- a refusal is fixed by its number, which is never that of an accepted call
@@ -48,6 +48,13 @@ number_of_refuses OutsideSpan e = omega arith
 number_of_refuses MalformedLine e = omega arith
 number_of_refuses NoSuchRecord e = omega arith
 number_of_refuses TableFull e = omega arith
+
+-- a test that is asked alone: two answers that its contract allows are one
+pub refusal_told_unique : (r s : Result ⊤ Refusal) → refusal_told r ≡ refusal_told s → r ≡ s
+refusal_told_unique (Ok x) (Ok y) e = refl
+refusal_told_unique (Ok x) (Err s) e = absurd (number_of_refuses s (sym e))
+refusal_told_unique (Err r) (Ok y) e = absurd (number_of_refuses r e)
+refusal_told_unique (Err r) (Err s) e = ap Err (number_of_unique r s e)
 
 -- ---- a value that says all of itself and no refusal
 

@@ -1,7 +1,6 @@
 // What the library answers, as numbers in a lent slice.
 ghost use Rattle.std.specs.Prelude.{◌≡◌, ◌≤◌, length};
 ghost use Rattle.rooms.specs.Laid.{over};
-ghost use Rattle.checks.specs.Refusal.{number_of};
 ghost use Rattle.checks.specs.Answer.{told};
 ghost use Rattle.export_numbers.specs.Exported.{short, with_room, NumbersOut, NumbersWritten};
 
@@ -30,14 +29,16 @@ pub fn place<T: Copy>(values: &[T], out: &mut [T])
 }
 
 // The library's refusal where there is room for so many numbers; else the room's in its place, as 01's order has it.
-pub fn refuse(r: Refusal, need: usize, room: usize) -> u32
-    ensures { result ≡ with_room (number_of r) (short need room) }
+pub fn refuse(no: u32, need: usize, room: usize) -> u32
+    ensures { result ≡ with_room no (short need room) }
 {
-    let no = u32::from(r);
-    if (no < SHORT) | (need <= room) {
+    if (0 < no) & (no < SHORT) {
         return no;
     }
-    SHORT
+    if room < need {
+        return SHORT;
+    }
+    no
 }
 
 // What a call answers, to the head of `out`.
@@ -49,6 +50,6 @@ pub fn write_answer<const N: usize, T: Numbers<N>>(
 {
     match answer {
         Ok(x) => write(&x.numbers(), out),
-        Err(r) => refuse(r, N, out.len()),
+        Err(r) => refuse(u32::from(r), N, out.len()),
     }
 }

@@ -17,4 +17,4 @@ returns-in-Ok g c =
     (told_out _ (g.met.T.Numbers.accepts c.in-Ok.x) c.numbers.ensures.values c.numbers.ensures.count c.write.ensures)
 
 pub returns-in-Err : goal.returns-in-Err
-returns-in-Err g c = refused_out _ _ (ap (told g.T.Numbers.says) c.in-Err.is) c.refuse.ensures
+returns-in-Err g c = refused_out _ _ (ap (told g.T.Numbers.says) c.in-Err.is) (rw c.from.ensures at c.refuse.ensures)
