@@ -57,7 +57,7 @@ fn piece(
     let mut rest = bytes;
     while !rest.is_empty() {
         rest = stream.step(rest, lent);
-        // In full and not by `?`: the edit cut_piece_counts_as_whole gives another answer here, and the proof keeps its places.
+        // In full and not by `?`, so that the edit cut_piece_counts_as_whole is refused at this return.
         if let Err(failure) = print(output, lent.out.as_slice()) {
             return Err(failure);
         }

@@ -99,7 +99,7 @@ pub fn pair_hits(a: Arc, b: Arc, depth: u32) -> usize
     CLOSED_HITS
 }
 
-// Two arcs whose numbers, depth and room are in order.
+// Two arcs whose numbers, depth and room are in order. The depth's bound is a clause and no type: the public calls take any depth and refuse a deeper one, and what is below them is called once.
 pub fn pair(a: Arc, b: Arc, depth: u32, room: &mut [f64]) -> Tally
     requires { (depth ≤ deepest) × (pair_hits a b depth ≤ length room.old / hit_size) }
     ensures { Holds (pair_outcome a b depth) room.old result room.new }

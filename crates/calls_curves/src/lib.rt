@@ -25,15 +25,10 @@ fn at(x: f64, y: f64) -> Point
 fn curves_hits(a: Curve, b: Curve, depth: u32) -> usize
     ensures { depth ≤ deepest → result ≡ curves_hits a b depth }
 {
-    match a {
-        Curve::Segment(_, _, _, _) => match b {
-            Curve::Segment(_, _, _, _) => SEGMENTS_HITS,
-            Curve::Arc(_) => CLOSED_HITS,
-        },
-        Curve::Arc(p) => match b {
-            Curve::Segment(_, _, _, _) => CLOSED_HITS,
-            Curve::Arc(q) => calls_crossings::pair_hits(p, q, depth),
-        },
+    match (a, b) {
+        (Curve::Segment(_, _, _, _), Curve::Segment(_, _, _, _)) => SEGMENTS_HITS,
+        (Curve::Arc(p), Curve::Arc(q)) => calls_crossings::pair_hits(p, q, depth),
+        _ => CLOSED_HITS,
     }
 }
 

@@ -32,6 +32,7 @@ impl From<Refusal> for u8 {
     }
 }
 
+// For u32 as well: C is given one, a line of arcdesk prints a byte.
 impl From<Refusal> for u32 {
     ghost from_gives = { λ r n. n ≡ number_of r };
 
@@ -52,6 +53,7 @@ pub struct Faults {
 
 #[tactic(auto, using(crate::proofs::Tested::is_finite_finite), unfolding(crate::specs::Given::tested, crate::specs::Refusal::refusal))]
 impl Faults {
+    // `none` and no `default`: a call's tests begin with it, and it reads so.
     pub fn none() -> Self
         ensures { result ≡ unfaulted }
     {

@@ -14,7 +14,7 @@ pub const KEPT: usize = 257;
 pub fn begun(line: &ArrayVec<u8, KEPT>) -> bool
     ensures { result ≡ ltb 0 (array_vec_len line.now) }
 {
-    0 < line.len()
+    !line.is_empty()
 }
 
 // One byte more of the line at hand, where it is kept.
@@ -31,6 +31,7 @@ fn keep(line: &mut ArrayVec<u8, KEPT>, b: u8)
 pub fn take_line(line: &mut ArrayVec<u8, KEPT>, piece: &[u8]) -> Option<usize>
     ensures { Takes line.old.items piece.now result line.new.items }
 {
+    // The loop's invariant needs it, and only a call tells it.
     prove!(line.len() <= KEPT);
     for (i, &b) in piece.iter().enumerate() {
         if b == b'\n' {

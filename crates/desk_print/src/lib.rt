@@ -54,7 +54,7 @@ pub fn refused_line<const N: usize>(out: &mut ArrayVec<u8, N>, line: u64, refusa
     ensures { out.new.items ≡ out.old.items ++ refused_line line refusal }
 {
     put_head(out, b'R', line);
-    put_count(out, refusal as u64);
+    put_count(out, u64::from(refusal));
     out.push(b'\n');
 }
 
@@ -76,7 +76,7 @@ pub fn end_line<const N: usize>(out: &mut ArrayVec<u8, N>, line: u64, t: Tally)
 {
     put_head(out, b'E', line);
     put_count(out, t.hits as u64);
-    put_count(out, t.brackets as u64);
-    put_count(out, t.evaluations as u64);
+    put_count(out, u64::from(t.brackets));
+    put_count(out, u64::from(t.evaluations));
     out.push(b'\n');
 }

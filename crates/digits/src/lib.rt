@@ -1,4 +1,4 @@
-// Digits of numbers as bytes: appended to a list of fixed capacity, and the value of one that is read.
+// Digits of numbers as bytes: appended to a list of fixed capacity, and the value of one that is read. By hand and not by `write!`: what that writes is promised of a `String` alone, and here every byte is.
 #![tactic(auto)]
 
 ghost use Rattle.std.specs.Prelude.{◌≡◌, ◌+◌, ◌<◌, ◌≤◌, ◌++◌};

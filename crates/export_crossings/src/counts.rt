@@ -8,7 +8,7 @@ ghost use Rattle.checks.specs.Answer.{told, counted, tally_counts};
 use checks::Refusal;
 use hits::Tally;
 
-// What a call counts, as C reads it.
+// What a call counts, as C reads it. A trait of its own beside `Numbers`: a tally tells counts and no numbers, and one over the element would carry both of an answer's lists.
 pub trait Counts<const N: usize> {
     ghost says: { Self → List ℕ };
 
@@ -40,16 +40,16 @@ impl Counts<6> for Tally {
     fn counts(self) -> [u64; 6] {
         [
             self.hits as u64,
-            self.brackets as u64,
-            self.outside_a as u64,
-            self.outside_b as u64,
-            self.doubles as u64,
-            self.evaluations as u64,
+            u64::from(self.brackets),
+            u64::from(self.outside_a),
+            u64::from(self.outside_b),
+            u64::from(self.doubles),
+            u64::from(self.evaluations),
         ]
     }
 }
 
-// The counts to the head of `counts`.
+// The counts to the head of `counts`. Each export tests first whether they fit: one function over a call and its refusal would have to say both contracts again.
 pub fn write_counts<const N: usize, T: Counts<N>>(
     found: Result<T, Refusal>,
     counts: &mut [u64],
