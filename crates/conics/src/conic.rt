@@ -45,19 +45,19 @@ impl Pencil {
     {
         let Pencil { l1, l2, m } = self;
         let a = Column {
-            l1: l1.a,
-            l2: l2.a,
-            m: m.a,
+            l1: l1.abc[0],
+            l2: l2.abc[0],
+            m: m.abc[0],
         };
         let b = Column {
-            l1: l1.b,
-            l2: l2.b,
-            m: m.b,
+            l1: l1.abc[1],
+            l2: l2.abc[1],
+            m: m.abc[1],
         };
         let c = Column {
-            l1: l1.c,
-            l2: l2.c,
-            m: m.c,
+            l1: l1.abc[2],
+            l2: l2.abc[2],
+            m: m.abc[2],
         };
         let entry = |i: Column, j: Column| (i.l1 * j.l2 + i.l2 * j.l1) / 2.0 + lambda * i.m * j.m;
         Conic {

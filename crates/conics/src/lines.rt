@@ -4,12 +4,10 @@ ghost use Rattle.conics.specs.Lines.{line_through, unit_line, line_value};
 
 use curves::Point;
 
-// Where ax + by + c is 0.
+// Where ax + by + c is 0, as [a, b, c]: 01, 'What must change shape', asks for arrays.
 #[derive(Clone, Copy)]
 pub struct Line {
-    pub a: f64,
-    pub b: f64,
-    pub c: f64,
+    pub abc: [f64; 3],
 }
 
 impl Line {
@@ -18,9 +16,7 @@ impl Line {
         ensures { result ≡ line_through p t }
     {
         Line {
-            a: t.y,
-            b: -t.x,
-            c: -(t.y * p.x - t.x * p.y),
+            abc: [t.y, -t.x, -(t.y * p.x - t.x * p.y)],
         }
     }
 
@@ -28,20 +24,20 @@ impl Line {
     pub fn normalized(self) -> Option<Self>
         ensures { result ≡ unit_line self }
     {
-        let len = root::norm(self.a, self.b);
+        let [a, b, c] = self.abc;
+        let len = root::norm(a, b);
         if len < 1e-12 {
             return None;
         }
         Some(Line {
-            a: self.a / len,
-            b: self.b / len,
-            c: self.c / len,
+            abc: [a / len, b / len, c / len],
         })
     }
 
     pub fn value_at(self, p: Point) -> f64
         ensures { result ≡ line_value self p }
     {
-        self.a * p.x + self.b * p.y + self.c
+        let [a, b, c] = self.abc;
+        a * p.x + b * p.y + c
     }
 }

@@ -9,7 +9,7 @@ use Rattle.curves.specs.declared.Point.{Point}
 use Rattle.shapes.specs.declared.Fitted.{Fitted}
 use Rattle.conics.specs.declared.conic.Conic.{Conic}
 use Rattle.root.specs.Norm.{norm}
-use Rattle.conics.specs.Lines.{line_through, normalized, line_value}
+use Rattle.conics.specs.Lines.{◌!◌, line_through, normalized, line_value}
 use Rattle.earc_fit.specs.Target.{bulge_sign_of, target_mid_of}
 use Rattle.earc_fit.specs.Target as target
 use Rattle.conics.specs.Conic.{conic_matrix}
@@ -37,7 +37,7 @@ fit_earc_tangent p1 t1 p2 t2 bulge =
     let l1 = line_through p1 t1 in
     let l2 = line_through p2 t2 in
     let chord_line = line_through p1 chord in
-    let m_len = norm chord_line.a chord_line.b in
+    let m_len = norm (chord_line ! 0) (chord_line ! 1) in
     let m = normalized chord_line m_len in
     let bulge_sign = bulge_sign_of p1 t1 t2 chord m in
     let target_mid = target_mid_of p1 p2 chord chord_len bulge_sign bulge in
