@@ -33,6 +33,7 @@ fn tell(mut errors: Stderr, failure: Failure) {
         Failure::Output(e) => ("the output cannot be written", e),
         Failure::Input(e) => ("the input cannot be read", e),
     };
+    // A Cursor and no `ArrayString`: of a longer text it keeps what fits.
     let mut text = Cursor::new([0u8; 128]);
     let _ = write!(text, "{e}");
     let len = text.position() as usize;
@@ -45,7 +46,8 @@ fn print(mut output: Stdout, out: &[u8]) -> Result<(), Failure> {
     output.write_all(out).map_err(Failure::Output)
 }
 
-// The bytes of a piece, a step at a time. What a step leaves for printing is printed at once; where that fails, no step follows.
+// The bytes of a piece, a step at a time. What a step leaves for printing is printed at once; where that fails, no step follows. The output, the stream and what is lent
+// are handed on side by side, since the contract is of the stream alone.
 fn piece(
     output: Stdout,
     stream: &mut Stream,

@@ -1,4 +1,4 @@
-// Crossings in closed form, and a single hit: the hits go to one lent room, the count to another.
+// Crossings in closed form, and a single hit: the hits go to one lent room, the count to another. Whether the counts fit is asked by their number, `< 1` here as `< 6` for a hunt.
 ghost use Rattle.hits.specs.Hit.{hit_part};
 ghost use Rattle.curves.specs.At.{at};
 ghost use Rattle.calls_crossings.specs.Answers.{segments_answer, segment_arc_answer};

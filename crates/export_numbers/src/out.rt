@@ -28,7 +28,7 @@ pub fn place<T: Copy>(values: &[T], out: &mut [T])
     out[..values.len()].copy_from_slice(values);
 }
 
-// The library's refusal where there is room for so many numbers; else the room's in its place, as 01's order has it.
+// The library's refusal where there is room for so many numbers; else the room's in its place, as 01's order has it: by the numbers, which C is given and in which that order stands.
 pub fn refuse(no: u32, need: usize, room: usize) -> u32
     ensures { result ≡ with_room no (short need room) }
 {

@@ -59,7 +59,7 @@ fn sin_cos(x: f64, len: u64, asked: u64) -> u64 {
         .map_or(u64::from(refusal), |number| scalar::to_bits(*number))
 }
 
-// The bits of the answer.
+// The bits of the answer. A match and no table: the routines take one, two or three numbers.
 fn answer(routine: Routine, row: &Row) -> u64 {
     let x = scalar::from_bits(row.x);
     let y = scalar::from_bits(row.y);
@@ -78,7 +78,8 @@ fn answer(routine: Routine, row: &Row) -> u64 {
     })
 }
 
-// The counts of the routines by their order, and at last of the rows whose letter is unknown: each of these differs.
+// The counts of the routines by their order, and at last of the rows whose letter is unknown: each of these differs. No `Tally`, which counts calls and prints all of them by their table;
+// and one array, since the names stand in the same order.
 type Counts = [Count; 11];
 
 fn count(counts: &mut Counts, row: &Row) {
