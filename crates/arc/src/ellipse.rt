@@ -9,6 +9,7 @@ use sine::SinCos;
 
 // The point at the angle t of an ellipse turned by the angle whose sine and cosine are `rot`: whoever asks for many points works these out once.
 // The sine of t does not come back beside its cosine: `sine::cos_beside_sin` says why.
+// rx and ry are two arguments and no `Radii`, as the public `ellipse_point` and `ellipse_tangent` have them.
 pub fn turn_point(center: Point, rx: f64, ry: f64, rot: SinCos, t: f64) -> Point
     ensures { result ≡ turn_point center rx ry rot.sin rot.cos (sine t) (cosine t) }
 {

@@ -1,4 +1,4 @@
-// The arc record, its points and tangents (002) and its span (000).
+// An arc's points and tangents (002), its span (000).
 #![tactic(auto)]
 
 mod ellipse;

@@ -79,6 +79,7 @@ pub fn arc_theta_of_pos(arc: Arc, p: Point) -> f64
     arctan::atan2(u.y, u.x)
 }
 
+// The products in 000's order, where `to_unit` has them the other way: the definition is that, operation by operation.
 #[tactic(auto, unfolding(crate::specs::Frame::arc_param_at_point))]
 pub fn arc_param_at_point(a: Arc, p: Point) -> f64
     ensures { result ≡ arc_param_at_point a p }

@@ -51,6 +51,7 @@ fn arc(u: f64) -> u64
 }
 
 // The angle in the quadrant of (y, x), where u is the smaller size over the larger and steep says that y is the larger.
+// y and x go from step to step as `atan2` takes them: a struct of the two would be made there and opened in each.
 fn angle(y: f64, x: f64, steep: bool, u: f64) -> f64
     requires { InUnit u }
     ensures { result ≡ angle_of y x steep u }

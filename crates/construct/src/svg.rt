@@ -21,6 +21,7 @@ impl Ends {
         scalar::abs(self.p1.x - self.p2.x) < 1e-12 && scalar::abs(self.p1.y - self.p2.y) < 1e-12
     }
 
+    // It turns as `arc::to_unit` does, which also divides by the radii: SVG's step has none, and its result corrects them.
     pub fn primed(self, rot: SinCos) -> Point
         ensures { result ≡ primed self.p1 self.p2 rot.sin rot.cos }
     {

@@ -28,6 +28,7 @@ fn unit_roots(a: Point, d: Point) -> UpToTwo<f64>
 }
 
 // The hit at the root t, if it lies on the segment and in the arc's span.
+// What goes on to each root is handed along bare: the calls are timed.
 #[tactic(auto, unfolding(crate::specs::SegmentArc::segment_hit))]
 fn segment_hit(p1: Point, p2: Point, arc: Arc, a: Point, d: Point, t: f64) -> Option<CurveHit>
     ensures { result ≡ segment_hit p1 p2 arc a d t }

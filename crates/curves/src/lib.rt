@@ -8,6 +8,7 @@ pub struct Point {
 }
 
 // A circular arc or an ellipse's, whole where `closed`. `ccw` is its direction from start to end.
+// Seven floats and three marks, 01's form: a mark stands beside its number, since points and tangents use radius_b whatever the mark.
 #[derive(Clone, Copy)]
 pub struct Arc {
     pub center: Point,
@@ -28,7 +29,7 @@ pub struct Radii {
     pub b: f64,
 }
 
-// A segment's two ends, or an arc.
+// A segment's two ends as four floats, or an arc: 01's form of a curve.
 #[derive(Clone, Copy)]
 pub enum Curve {
     Segment(f64, f64, f64, f64),

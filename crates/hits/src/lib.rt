@@ -37,7 +37,7 @@ pub struct Tally {
     pub evaluations: u32,
 }
 
-// What a closed form finds, in order: the roots of a quadratic, the crossings at them. Three cases and no container, since the time of these calls is measured.
+// What a closed form finds, in order: the roots of a quadratic, the crossings at them. Three cases and no list: `match` names what there is, and nothing is filled.
 #[derive(Clone, Copy)]
 pub enum UpToTwo<T> {
     Zero,
@@ -132,6 +132,7 @@ pub fn first_hits(room: &[f64], count: usize) -> &[[f64; HIT]]
     &room.as_chunks::<HIT>().0[..count]
 }
 
+// The room is the caller's slice of numbers, as C lends it, and the count stands in the tally: a struct of both would be made and opened at each cell of the hunt.
 // Writes a hit after the first n. Number by number, since an array that is copied to its place goes over the stack, which made the crossings of two circles slower.
 pub fn put(room: &mut [f64], n: usize, h: CurveHit)
     requires { n < length room.old / hit_size }
@@ -165,6 +166,7 @@ pub fn write(room: &mut [f64], c: UpToTwo<CurveHit>) -> usize
 }
 
 // The numbers of the hit i, as that part of the room; the empty part where there is no such hit or it does not fit.
+// A part of the room and no Option, by 01's form: C is told how many numbers it has, 0 for none.
 #[tactic(auto, unfolding(crate::specs::Hit::hit_part))]
 pub fn hit<'a>(room: &'a [f64], hits: usize, i: usize) -> &'a [f64]
     ensures { result.now ≡ hit_part room.now hits i }

@@ -10,6 +10,7 @@ use hits::CurveHit;
 use sine::SinCos;
 
 // The two arcs with what one evaluation needs of them, worked out once: the sine and the cosine of both rotations, b's effective radii.
+// Plain fields and no invariant: `value` and `point` are defined of any frame.
 #[derive(Clone, Copy)]
 pub struct Frame {
     pub a: Arc,

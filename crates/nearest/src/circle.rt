@@ -1,4 +1,5 @@
 // The distance of a point from a circular arc. `off` is the point as seen from the center.
+// `off` goes beside the arc: three functions take both, and a struct would be made once and opened in each.
 ghost use Rattle.std.specs.Prelude.{◌≡◌};
 ghost use Rattle.nearest.specs.CircleDist.{on_ray, whole_dist, in_range, end_dist, part_dist};
 

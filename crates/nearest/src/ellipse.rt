@@ -21,6 +21,7 @@ fn nearest_of(start: Near, end: Near, found: Near) -> Near
     }
 }
 
+// 000 has TAU itself here, where a hunt's span is start + TAU - start: they round otherwise.
 fn span(a: Arc) -> f64
     ensures { result ≡ span a }
 {

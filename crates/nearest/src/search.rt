@@ -18,6 +18,7 @@ pub fn squared_dist(p: Point, q: Point) -> f64
 }
 
 // The rotation's sine and cosine are worked out once, since a search asks for many points.
+// What asks for no point of the arc by its angle takes the arc and the point bare: making a search works out a sine and a cosine.
 #[derive(Clone, Copy)]
 pub struct Search {
     pub a: Arc,

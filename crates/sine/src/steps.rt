@@ -1,4 +1,4 @@
-// The steps of the rule on whole numbers. Their bounds are clauses and no types: each number goes through one step, and a struct of it would be made and opened there.
+// The steps of the rule on whole numbers. Their bounds are clauses and no types: a number is handed from step to step bare, and a struct of it would be opened in each.
 ghost use Rattle.std.specs.Prelude.{◌≡◌, ◌+◌, ◌*◌, ◌/◌, ◌^◌, ◌<◌, ◌≤◌, not, ◌==◌};
 ghost use Rattle.sine.specs.Node.{apart};
 ghost use Rattle.sine.specs.Short.{bend, lack, short_sine, short_versine};
@@ -23,6 +23,7 @@ fn bend(k: u64, c: u64, s: u64, w: u64) -> u64
 }
 
 // What the sine lacks of g, as a part of g, at 2^70; z is the square of g at 2^70.
+// `lack` and `short_versine` are one form with five constants: one function of the five would need clauses on them longer than both.
 #[tactic(auto, unfolding(crate::specs::Short::lack))]
 fn lack(z: u64) -> u64
     requires { z ≤ 2 ^ 60 }
