@@ -64,6 +64,7 @@ fn angle(y: f64, x: f64, steep: bool, u: f64) -> f64
 }
 
 // The sign bit: x is below 0 or is -0.
+#[tactic(auto, using(laws::proofs::Kind::negative_is))]
 fn is_negative(x: f64) -> bool
     ensures { result ≡ negative x }
 {

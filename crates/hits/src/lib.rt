@@ -134,6 +134,7 @@ pub fn first_hits(room: &[f64], count: usize) -> &[[f64; HIT]]
 
 // The room is the caller's slice of numbers, as C lends it, and the count stands in the tally: a struct of both would be made and opened at each cell of the hunt.
 // Writes a hit after the first n. Number by number, since an array that is copied to its place goes over the stack, which made the crossings of two circles slower.
+#[tactic(auto, using(crate::proofs::Rooms::put_stores))]
 pub fn put(room: &mut [f64], n: usize, h: CurveHit)
     requires { n < length room.old / hit_size }
     ensures { room.new ≡ put room.old n h }

@@ -28,6 +28,7 @@ pub fn sqrt(x: f64) -> f64
 }
 
 // The length of a vector.
+#[tactic(auto, unfolding(crate::specs::Norm::norm))]
 pub fn norm(x: f64, y: f64) -> f64
     ensures { result ≡ norm x y }
 {

@@ -57,6 +57,7 @@ fn floats(r: Units, flip: bool, lent: &mut [f64; 3]) -> f64
 }
 
 // Both of the angle n, the sine negated where `flip`.
+#[tactic(auto, unfolding(crate::specs::Rule::places, crate::specs::Rule::float))]
 fn turned(n: u64, flip: bool, lent: &mut [f64; 3]) -> f64
     requires { n < 203 * 2 ^ 56 }
     ensures { (result ≡ float (cosine_units n) false) × (lent.new ≡ slice_set lent.old 2 (float (sine_units n) flip)) }

@@ -24,7 +24,7 @@ fn bend(k: u64, c: u64, s: u64, w: u64) -> u64
 
 // What the sine lacks of g, as a part of g, at 2^70; z is the square of g at 2^70.
 // `lack` and `short_versine` are one form with five constants: one function of the five would need clauses on them longer than both.
-#[tactic(auto, unfolding(crate::specs::Short::lack))]
+#[tactic(auto, using(crate::proofs::Sizes::bent_le), unfolding(crate::specs::Short::lack))]
 fn lack(z: u64) -> u64
     requires { z ≤ 2 ^ 60 }
     ensures { result ≡ lack z }
@@ -43,7 +43,7 @@ pub fn short_sine(g: u64, z: u64) -> u64
 }
 
 // One less the cosine, at 2^70.
-#[tactic(auto, unfolding(crate::specs::Short::short_versine))]
+#[tactic(auto, using(crate::proofs::Sizes::bent_le), unfolding(crate::specs::Short::short_versine))]
 pub fn short_versine(z: u64) -> u64
     requires { z ≤ 2 ^ 60 }
     ensures { result ≡ short_versine z }

@@ -1,7 +1,0 @@
--- `root::norm` meets its contract.
-use Rattle.root.specs.Norm.{norm}
-use Rattle.root.proofs.norm.Goals as goal
-
-pub returns : goal.returns
-unfolding norm
-returns c = rw (← c.sqrt.ensures)
