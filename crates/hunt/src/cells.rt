@@ -27,7 +27,7 @@ pub fn span(a: Arc) -> f64
 pub fn step(span: f64, n: u32) -> f64
     ensures { result ≡ part span n }
 {
-    span / (n as f64)
+    span / f64::from(n)
 }
 
 #[tactic(auto, unfolding(crate::specs::Cells::sample))]
@@ -37,7 +37,7 @@ pub fn sample(start: f64, step: f64, i: u32) -> f64
     if i == 0 {
         start
     } else {
-        start + step * (i as f64)
+        start + step * f64::from(i)
     }
 }
 

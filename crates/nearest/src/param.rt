@@ -39,7 +39,7 @@ fn on_ellipse(arc: Arc, p: Point) -> f64
     let n = 128;
     let search = Search::new(arc, p);
     let best = search.best_of(ea - sa, n);
-    let cell = scalar::abs(ea - sa) / (n as f64);
+    let cell = scalar::abs(ea - sa) / f64::from(n);
     let s = search.thirds(Stretch {
         lo: best.t - cell,
         hi: best.t + cell,

@@ -15,7 +15,7 @@ impl Search {
     fn sample(&self, span: f64, n: u8, i: u8) -> f64
         ensures { result ≡ sample self.now.a span n i }
     {
-        self.a.start + span * ((i as f64) / (n as f64))
+        self.a.start + span * (f64::from(i) / f64::from(n))
     }
 
     #[tactic(auto, unfolding(crate::specs::Samples::closer))]
