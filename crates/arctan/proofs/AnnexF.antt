@@ -1,4 +1,5 @@
 -- The rule keeps Annex F row by row, and its constants are 01's.
+use Rattle.std.proofs.Math.Bool.{and-false}
 use Rattle.std.proofs.Common.{◌≡◌, zero as nought, suc, ◌+◌, ◌*◌, Bool, true, false, cond, ◌||◌, sym, refl, ◌∙◌, true≢false, arith}
 use lib.Count.{count_trailing_zeros}
 use lib.Ieee.{Float, nan, inf, fin, up, down, is_nan, of_bits, of_fields, odd, size, span, climb, round, units, neg, mul, div, lt}
@@ -8,7 +9,6 @@ use Rattle.laws.specs.Kind.{negative, is_infinite, is_zero, is_ordinary}
 use Rattle.laws.proofs.Kind.{not-less}
 use Rattle.scalar.specs.Angles.{pi, frac_pi2}
 use Rattle.arctan.specs.Rule.{edge_size, edge_of, arctangent}
-use Rattle.arctan.proofs.Tests.{and_none}
 use Rattle.arctan.proofs.Cases.{edge_number, arctan_edge}
 
 pub constants : Constants
@@ -46,7 +46,7 @@ zero_beside s x e = arctan_edge (zero_of s) x refl ∙ (edge_number (zero_of s) 
 beside_zero : (t : Bool) (y : Float) → is_nan y ≡ false → is_zero y ≡ false → arctangent y (zero_of t) ≡ signed (negative y) frac_pi2
 unfolding edge_size is_nan
 beside_zero t y e z =
-    arctan_edge y (zero_of t) (and_none (is_ordinary y))
+    arctan_edge y (zero_of t) (and-false (is_ordinary y))
     ∙ (edge_number y (zero_of t) (rw e refl) ∙ rw z (steep (is_infinite y)))
   where
     steep : (b : Bool) → cond (negative y) (neg (cond b frac_pi2 frac_pi2)) (cond b frac_pi2 frac_pi2) ≡ signed (negative y) frac_pi2

@@ -34,9 +34,6 @@ NotAbove x y = (T (lt x y)) ⊎ (T (not (lt y x)))
 largest-not : (s : Bool) → s ≡ false → T (le (inf s) largest) → ⊥
 largest-not s e h = true≢false (sym (below_largest s h) ∙ e)
 
-above_zero : (m d : ℕ) → 0 < m → 0 < d → 0 < m * d
-above_zero m d h k = mul-pos h k
-
 -- with x above 0, y finite and x not above y, both are
 pub positives : (x y : Float) → T (lt zero x) → T (le y largest) → NotAbove x y → (Positive x) × (Positive y)
 unfolding lt le eq of_bits of_fields odd
@@ -53,12 +50,12 @@ positives (fin false m e) (inf true) h k n = absurd (⊎_elim (λ x. x) (λ x. x
 positives (fin false m e) (fin true l d) h k n =
     let i = ltb→lt (0 * 1 * down e) (m * up e * 1) h in
     let p : 0 < m * up e = omega arith in
-    let q = above_zero (m * up e) (down d) p (down_pos d) in
+    let q = mul-pos p (down_pos d) in
     absurd (⊎_elim (λ x. x) (λ x. let j = nltb→le 0 (l * up d * down e + m * up e * down d) x in let z : ⊥ = omega arith in z) n)
 positives (fin false m e) (fin false l d) h k n =
     let i = ltb→lt (0 * 1 * down e) (m * up e * 1) h in
     let p : 0 < m * up e = omega arith in
-    let q = above_zero (m * up e) (down d) p (down_pos d) in
+    let q = mul-pos p (down_pos d) in
     let j : m * up e * down d ≤ l * up d * down e =
     ⊎_elim (λ x. le_of_lt (ltb→lt (m * up e * down d) (l * up d * down e) x)) (λ x. nltb→le (l * up d * down e) (m * up e * down d) x) n in
     (p, first_pos (l * up d) (down e) (omega arith))

@@ -1,4 +1,5 @@
 -- One test of the smaller and the larger size says that neither number is 0, an infinity or a NaN.
+use Rattle.std.proofs.Math.Bool.{and-false}
 use Rattle.std.proofs.Common.{◌≡◌, ℕ, zero as nought, suc, ◌+◌, ◌*◌, ◌^◌, ◌≤◌, Bool, true, false, cond, not, ◌&&◌, ◌||◌, T, eqb, ltb, ℤ, pos, sym, refl, ◌∙◌, subst, ⊎_elim, true≢false, eq-or-lt_of_le, arith, nltb→le}
 use lib.Count.{count_trailing_zeros}
 use lib.Dec.{eqb_refl}
@@ -13,10 +14,6 @@ use Rattle.arctan.specs.Rule.{smaller, larger}
 
 abbrev pub tested : Float → Float → Bool
 tested y x = lt zero (smaller y x) && le (larger y x) largest
-
-pub and_none : (b : Bool) → (b && false) ≡ false
-and_none true = refl
-and_none false = refl
 
 lt_nan : (z : Float) → lt z nan ≡ false
 unfolding lt
@@ -52,7 +49,7 @@ size_some false m e = rw (not_below_zero (suc m) e) refl
 -- a NaN, where it is the smaller or the larger
 nan_above : (y : Float) → tested y nan ≡ false
 unfolding le lt eq size_of
-nan_above y = and_none (lt zero (size_of y))
+nan_above y = and-false (lt zero (size_of y))
 
 nan_beside : (x : Float) → tested nan x ≡ false
 unfolding lt of_bits of_fields odd
@@ -64,7 +61,7 @@ unfolding le lt eq of_bits of_fields odd count_trailing_zeros
 not_finite = refl
 
 far_beside : (s : Bool) (y : Float) → tested y (inf s) ≡ false
-far_beside s y = rw (size_infinity s, lt_from_infinity (size_of y), not_finite) (and_none (lt zero (size_of y)))
+far_beside s y = rw (size_infinity s, lt_from_infinity (size_of y), not_finite) (and-false (lt zero (size_of y)))
 
 finite_below : (s : Bool) (m : ℕ) (e : ℤ) → lt (fin s m e) (inf false) ≡ true
 unfolding lt
@@ -77,7 +74,7 @@ size_finite false t n d = refl
 
 far_above : (s t : Bool) (n : ℕ) (d : ℤ) → tested (inf s) (fin t n d) ≡ false
 unfolding size_of
-far_above s t n d = rw (size_infinity s, size_finite (lt (fin t n d) zero) t n d, not_finite) (and_none (lt zero (size_of (fin t n d))))
+far_above s t n d = rw (size_infinity s, size_finite (lt (fin t n d) zero) t n d, not_finite) (and-false (lt zero (size_of (fin t n d))))
 
 -- a zero is the smaller
 zero-is_none : (s : Bool) → lt zero (fin s nought (pos 0)) ≡ false

@@ -1,4 +1,5 @@
 -- The digits and the scale of the number of a pattern: of a normal one they are its fields, those of a subnormal one move up by z places.
+use Rattle.std.proofs.Math.Nat.{mod-eq_of_lt}
 use mathlib.Core.Path.{◌≡◌, sym, ap, ◌∙◌, subst}
 use mathlib.Core.Bool.{false}
 use Prim.Native.Nat.{ℕ, suc, ◌+◌, ◌-◌, ◌*◌, ◌/◌, ◌%◌, ◌^◌, ◌≤◌, ◌<◌}
@@ -70,11 +71,8 @@ eleven b p h =
     next : (j z : ℕ) → j + z ≡ 52 → suc j + z ≡ 53
     next j z e = omega arith
 
-fit : (a : ℕ) → a < 2 ^ 53 → a % 2 ^ 64 ≡ a
-fit a h = omega arith
-
 pub subnormal : (b z like : ℕ) → 0 < b → b < 2 ^ 52 → Zeros b z → like < 0x7ff0_0000_0000_0000 → Spread b (b * 2 ^ z % 2 ^ 64) (1074 - z) like
-subnormal b z like p h o l = subst (λ (t : ℕ). Spread b t (1074 - z) like) (sym (fit (b * 2 ^ z) o.high)) (record {
+subnormal b z like p h o l = subst (λ (t : ℕ). Spread b t (1074 - z) like) (sym (mod-eq_of_lt (omega (arith, o.high)))) (record {
   number =
       subst (λ (a : ℕ). HasValue (of_bits binary64 b) false a (2 ^ 2148)) (sym (joined b z (1074 - z) 1074 (back z o.most)))
       (value-scaled (of_bits binary64 b) false b (2 ^ 1074) (2 ^ 1074) (units_low b h));

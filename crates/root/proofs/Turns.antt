@@ -22,14 +22,11 @@ pub record Taken (word i root rest left : ℕ) : Type 0 where
 one_more_lem : (q q' a : ℕ) → q < a → q' ≤ 2 * q + 1 → q' < 2 * a
 one_more_lem q q' a h g = omega arith
 
-below_word : (a : ℕ) → a % 2 ^ 64 < 2 ^ 64
-below_word a = omega arith
-
 pub taken : (word i q r w q' r' w' : ℕ) → Taken word i q r w → Turned q r w q' r' w' → Taken word (i + 1) q' r' w'
 taken word i q r w q' r' w' t n = record {
   short = rw (add-one, pow-succ') (one_more_lem q q' (2 ^ i) t.short n.grown);
   least = n.least;
-  fits = rw n.moved (below_word (w * 2 ^ 2));
+  fits = rw n.moved (omega arith);
   number =
       rw (n.number, n.moved, carried, t.number, add-one, pow-succ')
       (omega arith);
