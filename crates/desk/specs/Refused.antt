@@ -2,7 +2,6 @@
 -- 9 "a 65th record", 3 "depth above 3 (arc pairs, and every query line)". The room has the need of every query, so that 4 is no refusal of a line: no room is short here.
 use Rattle.std.specs.Prelude.{ℕ, false, cond, ◌&&◌, ◌++◌, ltb, length, Option, Some, None}
 use Rattle.curves.specs.declared.Curve.{Curve}
-use Rattle.curves.specs.declared.Curve.TheVariants as curve
 use Rattle.checks.specs.Given.{curve_numbers}
 use Rattle.checks.specs.Refusal.{malformed_line, no_such_record, table_full, deep, refusal_of, numbers_refusal}
 use Rattle.desk_line.specs.declared.Line.{Line}
@@ -24,7 +23,6 @@ query_refusal t i j depth = cond (held t i && held t j) (pair_refusal (record_at
 
 -- `accepted` for none
 abbrev pub refusal : Table → Option Line → ℕ
-refusal t (Some (says.Segment x1 y1 x2 y2)) = record_refusal t (curve.Segment x1 y1 x2 y2)
-refusal t (Some (says.Arc a)) = record_refusal t (curve.Arc a)
+refusal t (Some (says.Record c)) = record_refusal t c
 refusal t (Some (says.Query i j depth)) = query_refusal t i j depth
 refusal t None = malformed_line

@@ -3,7 +3,6 @@
 use Rattle.std.specs.Prelude.{ℕ, cond, List, [], ◌++◌, eqb, Option, Some, None}
 use Rattle.hits.specs.declared.CurveHit.{CurveHit}
 use Rattle.hits.specs.Outcome.{Outcome, tally}
-use Rattle.curves.specs.declared.Curve.TheVariants as curve
 use Rattle.checks.specs.Refusal.{accepted}
 use Rattle.calls_curves.specs.Curves.{curves_outcome}
 use Rattle.desk_line.specs.declared.Line.{Line}
@@ -37,14 +36,12 @@ stays n t next = cond (eqb n accepted) next t
 
 -- of a line that is not refused, as a malformed one always is
 abbrev pub taken : Table → ℕ → Option Line → Shown
-taken t line (Some (says.Segment x1 y1 x2 y2)) = nothing
-taken t line (Some (says.Arc a)) = nothing
+taken t line (Some (says.Record c)) = nothing
 taken t line (Some (says.Query i j depth)) = crossed line (curves_outcome (record_at t i) (record_at t j) depth)
 taken t line None = nothing
 
 abbrev pub grown : Table → Option Line → Table
-grown t (Some (says.Segment x1 y1 x2 y2)) = stored t (curve.Segment x1 y1 x2 y2)
-grown t (Some (says.Arc a)) = stored t (curve.Arc a)
+grown t (Some (says.Record c)) = stored t c
 grown t (Some (says.Query i j depth)) = t
 grown t None = t
 

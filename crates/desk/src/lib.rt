@@ -72,7 +72,7 @@ impl Table {
         if self.records.is_full() {
             return Err(Refusal::TableFull);
         }
-        Faults::none().curve(c).refusal(false, false)?;
+        Faults::none().curve(c).passed()?;
         self.records.push(c);
         Ok(())
     }
@@ -93,8 +93,7 @@ impl Table {
         ensures err { OnErr result ((self.new ≡ self.old) × (room.new ≡ room.old) × (out.new ≡ out.old)) }
     {
         match line.ok_or(Refusal::MalformedLine)? {
-            Line::Segment(x1, y1, x2, y2) => self.keep(Curve::Segment(x1, y1, x2, y2)),
-            Line::Arc(a) => self.keep(Curve::Arc(a)),
+            Line::Record(c) => self.keep(c),
             Line::Query {
                 first,
                 second,

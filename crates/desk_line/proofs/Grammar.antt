@@ -3,6 +3,7 @@ use Rattle.std.proofs.Common.{◌≡◌, ℕ, ◌≤◌, List, [], ◌∷◌, So
 use Rattle.std.proofs.lemmas.Option.{none-some, same_Some, option_and_then_some}
 use native.Mathlib.Decide.{dec_le, ℕ_discrete}
 use borrow.Author.Tests.{eq-eqb, ne_eqb, le-ltb}
+use Rattle.curves.specs.declared.Curve.TheVariants as curve
 use Rattle.desk_line.specs.declared.Line.{Line}
 use Rattle.desk_line.specs.declared.Line.TheVariants as says
 use Rattle.desk_fields.specs.Text.{tabbed}
@@ -33,7 +34,7 @@ module _ (line rest : List ℕ) (l : Line) where
       let b = number_text x1.1 y1.0 y1.1 e2 in
       let c = number_text y1.1 x2.0 x2.1 e3 in
       let d = number_text x2.1 y2.0 y2.1 e4 in
-      rw (← (same_Some (says.Segment x1.0 y1.0 x2.0 y2.0) l e))
+      rw (← (same_Some (says.Record (curve.Segment x1.0 y1.0 x2.0 y2.0)) l e))
       (record { a = a.number; b = b.number; c = c.number; d = d.number; text = k ∙ ap (λ (f : List ℕ). 83 ∷ f) (a.text _ (b.text _ (c.text _ (d.text [] (end_text y2.1 t e5))))) }))))))
 
   arc_says : line ≡ 65 ∷ rest → arc_of rest ≡ Some l → Form line l
@@ -60,7 +61,7 @@ module _ (line rest : List ℕ) (l : Line) where
       let m1 = mark_text end.1 ccw.0 ccw.1 e8 in
       let m2 = mark_text ccw.1 closed.0 closed.1 e9 in
       let m3 = mark_text closed.1 is_ellipse.0 is_ellipse.1 e10 in
-      rw (← (same_Some (says.Arc _) l e))
+      rw (← (same_Some (says.Record (curve.Arc _)) l e))
       (record {
         x = n1.number;
         y = n2.number;
@@ -111,9 +112,9 @@ read_says line l e =
 -- ---- what the grammar says is read
 form_read : (line : List ℕ) (l : Line) → length line ≤ 256 → Form line l → read_line line ≡ Some l
 unfolding read_line segment_of arc_of query_of Form tabbed
-form_read line (says.Segment x1 y1 x2 y2) h s =
+form_read line (says.Record (curve.Segment x1 y1 x2 y2)) h s =
     rw (le-ltb 256 (length line) h, s.text) (rw (number_read _ s.a, number_read _ s.b, number_read _ s.c, number_read _ s.d))
-form_read line (says.Arc e) h s =
+form_read line (says.Record (curve.Arc e)) h s =
     rw (le-ltb 256 (length line) h, s.text)
     (rw (number_read _ s.x, number_read _ s.y, number_read _ s.r, number_read _ s.s)
     (rw (number_read _ s.turn, number_read _ s.start, number_read _ s.end, mark_read _ e.ccw, mark_read _ e.closed, mark_read _ e.is_ellipse)))

@@ -4,6 +4,7 @@
 use Rattle.std.specs.Prelude.{ℕ, ◌≤◌, ◌<◌, ◌≡◌, List, [], ◌∷◌, length, Float}
 use Rattle.digits.specs.Decimal.{decimal_digit}
 use Rattle.curves.specs.declared.Arc.{Arc}
+use Rattle.curves.specs.declared.Curve.TheVariants as curve
 use Rattle.desk_fields.specs.Text.{tabbed, Bits, written, mark, RecordNumber}
 use Rattle.desk_line.specs.declared.Line.{Line}
 use Rattle.desk_line.specs.declared.Line.TheVariants as says
@@ -33,8 +34,8 @@ pub record SaysQuery (line : List ℕ) (a b depth : ℕ) : Type 0 where
   pub text : line ≡ 88 ∷ tabbed (first.digits ∷ second.digits ∷ (decimal_digit depth ∷ []) ∷ [])
 
 unfoldable pub Form : List ℕ → Line → Type 0
-Form line (says.Segment x1 y1 x2 y2) = SaysSegment line x1 y1 x2 y2
-Form line (says.Arc e) = SaysArc line e
+Form line (says.Record (curve.Segment x1 y1 x2 y2)) = SaysSegment line x1 y1 x2 y2
+Form line (says.Record (curve.Arc e)) = SaysArc line e
 Form line (says.Query a b depth) = SaysQuery line a b depth
 
 pub record Says (line : List ℕ) (l : Line) : Type 0 where

@@ -1,6 +1,7 @@
 -- 01, 'The program arcdesk and its lines': "A record number that begins with 0 or a line above 256 bytes is malformed", "an empty line is malformed". A line, read by its first byte: none
 -- where it is malformed.
 use Rattle.std.specs.Prelude.{ℕ, cond, List, ltb, eqb, length, Option, Some, None}
+use Rattle.curves.specs.declared.Curve.TheVariants as curve
 use Rattle.desk_line.specs.declared.Line.{Line}
 use Rattle.desk_line.specs.declared.Line.TheVariants as says
 use Rattle.desk_fields.specs.Field.{◌>>=◌, byte_of, number_of, digit_of, mark_of, record_of, end_of}
@@ -12,7 +13,7 @@ segment_of line = do
   (x2, c) ← number_of b
   (y2, d) ← number_of c
   _ ← end_of d
-  Some (says.Segment x1 y1 x2 y2)
+  Some (says.Record (curve.Segment x1 y1 x2 y2))
 
 unfoldable pub arc_of : List ℕ → Option Line
 arc_of line = do
@@ -27,7 +28,7 @@ arc_of line = do
   (closed, i) ← mark_of h
   (ellipse, j) ← mark_of i
   _ ← end_of j
-  Some (says.Arc (record { center = record { x = x; y = y }; radius = radius; radius_b = radius_b; rotation = rotation; start = start; end = end; ccw = ccw; closed = closed; is_ellipse = ellipse }))
+  Some (says.Record (curve.Arc (record { center = record { x = x; y = y }; radius = radius; radius_b = radius_b; rotation = rotation; start = start; end = end; ccw = ccw; closed = closed; is_ellipse = ellipse })))
 
 unfoldable pub query_of : List ℕ → Option Line
 query_of line = do

@@ -4,14 +4,13 @@
 ghost use Rattle.std.specs.Prelude.{◌≡◌};
 ghost use Rattle.desk_line.specs.Read.{segment_of, arc_of, query_of, read_line};
 
-use curves::{Arc, Point};
+use curves::{Arc, Curve, Point};
 use desk_fields::Fields;
 
 // A line that is taken by its form. A record number above 64, however many digits it has, is held as 65.
 #[derive(Clone, Copy)]
 pub enum Line {
-    Segment(f64, f64, f64, f64),
-    Arc(Arc),
+    Record(Curve),
     Query {
         first: usize,
         second: usize,
@@ -28,7 +27,7 @@ fn segment(mut fields: Fields) -> Option<Line>
     let x2 = fields.number()?;
     let y2 = fields.number()?;
     fields.end()?;
-    Some(Line::Segment(x1, y1, x2, y2))
+    Some(Line::Record(Curve::Segment(x1, y1, x2, y2)))
 }
 
 #[tactic(auto, unfolding(crate::specs::Read::arc_of))]
@@ -50,7 +49,7 @@ fn arc(mut fields: Fields) -> Option<Line>
         is_ellipse: fields.mark()?,
     };
     fields.end()?;
-    Some(Line::Arc(arc))
+    Some(Line::Record(Curve::Arc(arc)))
 }
 
 #[tactic(auto, unfolding(crate::specs::Read::query_of))]
