@@ -41,8 +41,7 @@ struct Replay {
 
 impl Replay {
     fn end_line(&mut self) {
-        self.tally
-            .add(read(self.line.as_slice()).unwrap_or(Row::Unread));
+        self.tally.add(read(self.line.as_slice()));
         self.line.clear();
     }
 
@@ -72,7 +71,7 @@ impl Replay {
     // A row without its newline may be cut, and is not read.
     fn end(&mut self) {
         if !self.line.is_empty() {
-            self.tally.add(Row::Unread);
+            self.tally.add(None);
         }
     }
 }

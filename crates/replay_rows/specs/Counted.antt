@@ -1,5 +1,5 @@
 -- How a row is counted: once among the rows of its call and of all, where it could be read; and once more where the answer differs.
-use Rattle.std.specs.Prelude.{ℕ, ◌≡◌, List, Bool, true, false, slice_index_or, slice_set}
+use Rattle.std.specs.Prelude.{ℕ, ◌≡◌, List, Bool, true, false, slice_index_or, slice_set, Option, Some, None}
 use Rattle.replay_rows.specs.Count.{one_more, with_row}
 use Rattle.replay_rows.specs.Number.{number_of}
 use Rattle.replay_rows.specs.declared.tally.Count.{Count}
@@ -17,17 +17,16 @@ raised counts i same = slice_set counts i (with_row (slice_index_or counts i non
 abbrev pub counted : List Count → ℕ → Bool → List Count
 counted counts call same = raised (raised counts 0 same) call same
 
-abbrev pub unread_after : Row → ℕ → ℕ
-unread_after row.Unread unread = one_more unread
-unread_after (row.Same _) unread = unread
-unread_after (row.Differs _) unread = unread
+abbrev pub unread_after : Option Row → ℕ → ℕ
+unread_after None unread = one_more unread
+unread_after (Some _) unread = unread
 
-abbrev pub counts_after : Row → List Count → List Count
-counts_after row.Unread counts = counts
-counts_after (row.Same call) counts = counted counts (number_of call) true
-counts_after (row.Differs call) counts = counted counts (number_of call) false
+abbrev pub counts_after : Option Row → List Count → List Count
+counts_after None counts = counts
+counts_after (Some (row.Same call)) counts = counted counts (number_of call) true
+counts_after (Some (row.Differs call)) counts = counted counts (number_of call) false
 
 -- THE COUNTING: the unread rows and the counts after a row, by those before it
-pub record Counts (row : Row) (before after : Tally) : Type 0 where
+pub record Counts (row : Option Row) (before after : Tally) : Type 0 where
   pub unread : after.unread ≡ unread_after row before.unread
   pub counts : after.counts ≡ counts_after row before.counts

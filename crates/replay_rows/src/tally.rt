@@ -34,10 +34,9 @@ impl fmt::Display for Count {
     }
 }
 
-// What became of a row.
+// What became of a row that could be read.
 #[derive(Clone, Copy, Debug, PartialEq, Eq)]
 pub enum Row {
-    Unread,
     Same(Call),
     Differs(Call),
 }
@@ -58,13 +57,14 @@ impl Tally {
         self.counts[call.number()].add(same);
     }
 
-    pub fn add(&mut self, row: Row)
+    // None is a row that could not be read.
+    pub fn add(&mut self, row: Option<Row>)
         ensures { Counts row self.old self.new }
     {
         match row {
-            Row::Unread => self.unread = self.unread.saturating_add(1),
-            Row::Same(call) => self.count(call, true),
-            Row::Differs(call) => self.count(call, false),
+            None => self.unread = self.unread.saturating_add(1),
+            Some(Row::Same(call)) => self.count(call, true),
+            Some(Row::Differs(call)) => self.count(call, false),
         }
     }
 
