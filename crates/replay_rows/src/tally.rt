@@ -41,7 +41,7 @@ pub enum Row {
     Differs(Call),
 }
 
-// The counts of the calls stand at their numbers, that of all at 0.
+// The counts of the calls stand at their numbers, that of all at 0, which no call has; and so do the names below.
 #[derive(Clone, Copy, Debug, Default, PartialEq, Eq)]
 pub struct Tally {
     pub counts: [Count; 26],
