@@ -1,8 +1,7 @@
 // The crossings of two records, and their lines.
-ghost use Rattle.std.specs.Prelude.{◌≡◌, ◌+◌, ◌*◌, ◌≤◌, ◌/◌, ◌++◌, length, OnOk, OnErr};
+ghost use Rattle.std.specs.Prelude.{◌≡◌, ◌+◌, ◌*◌, ◌≤◌, ◌++◌, length, map, OnOk, OnErr};
 ghost use Rattle.arrayvec.specs.ArrayVec.{array_vec_len};
-ghost use Rattle.hits.specs.Hit.{hit_size};
-ghost use Rattle.hits.specs.Stands.{OfHits};
+ghost use Rattle.hits.specs.Hit.{hit_from};
 ghost use Rattle.checks.specs.Refusal.{refusal_told};
 ghost use Rattle.calls_curves.specs.Curves.{curves_outcome};
 ghost use Rattle.desk_print.specs.Printed.{longest_hit_line, hit_lines};
@@ -13,15 +12,15 @@ ghost use Rattle.desk.specs.Answer.{room_need, out_need, Shows};
 use arrayvec::ArrayVec;
 use checks::Refusal;
 use curves::Curve;
+use hits::{CurveHit, HIT};
 
-// The lines of the hits in the room, numbered from 1. By index, since a line has its number.
-fn put_hits<const N: usize>(out: &mut ArrayVec<u8, N>, line: u64, room: &[f64], hits: usize)
-    requires room { hits ≤ length room.now / hit_size }
-    requires out { array_vec_len out.old + longest_hit_line * hits ≤ N }
-    ensures { OfHits hits room.now (λ hs. out.new.items ≡ out.old.items ++ hit_lines line 1 hs) }
+// The lines of hits, each as its numbers, counted from 1.
+fn put_hits<const N: usize>(out: &mut ArrayVec<u8, N>, line: u64, hits: &[[f64; HIT]])
+    requires { array_vec_len out.old + longest_hit_line * length hits.now ≤ N }
+    ensures { out.new.items ≡ out.old.items ++ hit_lines line 1 (map hit_from hits.now) }
 {
-    for i in 0..hits {
-        desk_print::hit_line(out, line, (i + 1) as u64, hits::hit_at(room, i));
+    for (i, h) in hits.iter().enumerate() {
+        desk_print::hit_line(out, line, (i + 1) as u64, CurveHit::from(*h));
     }
 }
 
@@ -40,7 +39,7 @@ pub fn cross<const N: usize>(
     ensures err { OnErr result ((room.new ≡ room.old) × (out.new ≡ out.old)) }
 {
     let t = calls_curves::intersect(a, b, depth, room)?;
-    put_hits(out, line, room, t.hits);
+    put_hits(out, line, hits::first_hits(room, t.hits));
     desk_print::end_line(out, line, t);
     Ok(())
 }
