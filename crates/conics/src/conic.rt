@@ -24,6 +24,13 @@ pub struct Column {
     pub m: f64,
 }
 
+// The conic l1 l2 + lambda m^2 = 0 goes through the target point mid, where m has the value m_val.
+pub fn lambda(l1: Line, l2: Line, mid: Point, m_val: f64) -> f64
+    ensures { result ≡ lambda l1 l2 mid m_val }
+{
+    -(l1.value_at(mid) * l2.value_at(mid)) / (m_val * m_val)
+}
+
 // The conics that touch l1 and l2 where m meets them.
 #[derive(Clone, Copy)]
 pub struct Pencil {
@@ -37,7 +44,7 @@ impl Pencil {
     pub fn lambda(self, mid: Point, m_val: f64) -> f64
         ensures { result ≡ lambda self.l1 self.l2 mid m_val }
     {
-        -(self.l1.value_at(mid) * self.l2.value_at(mid)) / (m_val * m_val)
+        lambda(self.l1, self.l2, mid, m_val)
     }
 
     pub fn conic(self, lambda: f64) -> Conic

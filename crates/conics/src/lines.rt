@@ -1,6 +1,6 @@
 // Lines.
 ghost use Rattle.std.specs.Prelude.{◌≡◌};
-ghost use Rattle.conics.specs.Lines.{line_through, unit_line, line_value};
+ghost use Rattle.conics.specs.Lines.{line_through, normalized, unit_line, line_value};
 
 use curves::Point;
 
@@ -20,18 +20,25 @@ impl Line {
         }
     }
 
+    pub fn divided_by(self, len: f64) -> Self
+        ensures { result ≡ normalized self len }
+    {
+        let [a, b, c] = self.abc;
+        Line {
+            abc: [a / len, b / len, c / len],
+        }
+    }
+
     // None where a and b are too small to be a direction.
     pub fn normalized(self) -> Option<Self>
         ensures { result ≡ unit_line self }
     {
-        let [a, b, c] = self.abc;
+        let [a, b, _] = self.abc;
         let len = root::norm(a, b);
         if len < 1e-12 {
             return None;
         }
-        Some(Line {
-            abc: [a / len, b / len, c / len],
-        })
+        Some(self.divided_by(len))
     }
 
     pub fn value_at(self, p: Point) -> f64
