@@ -1,5 +1,5 @@
 // A stored answer and what was asked, as the words of a row have them: bench/src/bin/samples.rs.
-ghost use Rattle.std.specs.Prelude.{◌≡◌, ◌+◌, ◌<◌, ◌↔◌, IsTrue, length};
+ghost use Rattle.std.specs.Prelude.{◌≡◌, ◌+◌, ◌≤◌, ◌<◌, ◌↔◌, IsTrue, length};
 
 use crate::answer::{Answer, UNWRITTEN_BITS};
 use crate::call::Call;
@@ -29,7 +29,7 @@ pub struct Sample<'a> {
     pub words: &'a [u64],
     pub inputs: usize,
     pub outputs: usize,
-    ghost whole: { inputs + 8 + outputs ≡ length words.now },
+    ghost whole: { inputs + 8 + outputs ≤ length words.now },
 }
 
 impl<'a> Sample<'a> {
@@ -109,10 +109,11 @@ impl<'a> Sample<'a> {
     fn stored(&self, i: usize) -> u64
         ensures { result ≡ stored self.now.words.now (self.now.inputs + 8) self.now.outputs i }
     {
-        self.words[self.inputs + 8..]
-            .get(i)
-            .copied()
-            .unwrap_or(UNWRITTEN_BITS)
+        if i < self.outputs {
+            self.words[self.inputs + 8 + i]
+        } else {
+            UNWRITTEN_BITS
+        }
     }
 
     pub fn agrees(&self, answer: &Answer) -> bool
