@@ -1,5 +1,5 @@
 // A stored answer and what was asked, as the words of a row have them: bench/src/bin/samples.rs.
-ghost use Rattle.std.specs.Prelude.{◌≡◌, ◌+◌, ◌≤◌, ◌<◌, ◌↔◌, IsTrue, length};
+ghost use Rattle.std.specs.Prelude.{◌≡◌, ◌+◌, ◌≤◌, ◌<◌, ◌↔◌, IfSome, IsTrue, length};
 
 use crate::answer::{Answer, UNWRITTEN_BITS};
 use crate::call::Call;
@@ -34,9 +34,12 @@ pub struct Sample<'a> {
 
 impl<'a> Sample<'a> {
     ghost use Rattle.replay_rows.specs.Agree.{Agrees, stored};
+    ghost use Rattle.replay_rows.specs.Read.{IsRead};
 
     // Nothing where there is no such call, or not as many inputs and outputs as the words say.
-    pub fn read(words: &'a [u64]) -> Option<Sample<'a>> {
+    pub fn read(words: &'a [u64]) -> Option<Sample<'a>>
+        ensures { IfSome result (λ sample. IsRead words.now sample) }
+    {
         let [number, a, b, out, counts, given, ..] = words else {
             return None;
         };

@@ -1,0 +1,7 @@
+use Rattle.std.proofs.Common.{◌≡◌, ◌<◌, ℕ, get_or}
+use Rattle.replay_rows.specs.Told.{told}
+use Rattle.replay_rows.proofs.answer.Answer.new.Given as goal
+
+-- each word so far is told
+abbrev pub invariant-loop-i : goal.invariant-loop-i
+invariant-loop-i l = (k : ℕ) → k < l.i → get_or l.word-items k 0 ≡ told l.counts l.numbers k
