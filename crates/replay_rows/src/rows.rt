@@ -25,7 +25,7 @@ fn word(digits: &[u8]) -> Option<u64> {
         .try_fold(0, |word, b| Some(word << 4 | digit(*b)?))
 }
 
-// Puts the words of a line in place of those that stand there, so that a place serves all lines. Nothing where some word cannot be read, or there are too many.
+// Puts the words of a line in the place of those before it. Nothing where some word cannot be read, or there are too many.
 pub fn words(line: &[u8], words: &mut Words) -> Option<()> {
     words.clear();
     for digits in line.split(|b| *b == b'\t') {

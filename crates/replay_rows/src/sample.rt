@@ -21,7 +21,7 @@ pub struct LentArc {
     pub marks: u32,
 }
 
-// The inputs stand behind six words, then the refusal, how many outputs there are, and these.
+// The inputs stand behind six words, then the refusal, how many outputs there are, and these. What stands behind them counts for nothing.
 #[derive(Clone, Copy)]
 pub struct Sample<'a> {
     pub call: Call,
