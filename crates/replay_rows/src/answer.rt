@@ -19,9 +19,10 @@ impl Answer {
         ensures refusal { result.refusal ≡ refusal }
         ensures words { Tells counts.now numbers.now result.words }
     {
+        let len = counts.len().saturating_add(numbers.len()).min(128);
         let mut words = [UNWRITTEN_BITS; 128];
-        for (i, word) in words.iter_mut().enumerate() {
-            *word = told(counts, numbers, i);
+        for i in 0..len {
+            words[i] = told(counts, numbers, i);
         }
         Answer { refusal, words }
     }
