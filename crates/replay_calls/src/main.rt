@@ -11,7 +11,7 @@ mod by_numbers;
 mod crossings;
 
 use replay_rows::rows;
-use replay_rows::rows::Line;
+use replay_rows::rows::{Line, Words};
 use replay_rows::sample::Sample;
 use replay_rows::tally::{Row, Tally};
 use std::io;
@@ -25,23 +25,25 @@ fn held(sample: &Sample) -> Row {
     }
 }
 
-// Nothing where the line is no row.
-fn read(line: &[u8]) -> Option<Row> {
-    let words = rows::words(line)?;
-    let sample = Sample::read(words.as_slice())?;
-    Some(held(&sample))
-}
-
-// The line at hand, as far as it has come, and the rows so far.
+// The line at hand, as far as it has come, where its words go, and the rows so far.
 #[derive(Drop)]
 struct Replay {
     line: Line,
+    words: Words,
     tally: Tally,
 }
 
 impl Replay {
+    // Nothing where the line is no row.
+    fn read(&mut self) -> Option<Row> {
+        rows::words(self.line.as_slice(), &mut self.words)?;
+        let sample = Sample::read(self.words.as_slice())?;
+        Some(held(&sample))
+    }
+
     fn end_line(&mut self) {
-        self.tally.add(read(self.line.as_slice()));
+        let row = self.read();
+        self.tally.add(row);
         self.line.clear();
     }
 
@@ -80,6 +82,7 @@ fn main(rt: HostRuntime) -> io::Result<()> {
     let mut input = rt.stdin();
     let mut replay = Replay {
         line: Line::new(),
+        words: Words::new(),
         tally: Tally::default(),
     };
     replay.take_all(&mut input)?;

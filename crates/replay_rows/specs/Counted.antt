@@ -1,5 +1,5 @@
 -- How a row is counted: once among the rows of its call and of all, where it could be read; and once more where the answer differs.
-use Rattle.std.specs.Prelude.{ℕ, ◌≡◌, List, Bool, true, false, slice_index_or, slice_set, Option, Some, None}
+use Rattle.std.specs.Prelude.{ℕ, ◌≡◌, cond, List, Bool, true, false, ltb, slice_index_or, slice_set, Option, Some, None}
 use Rattle.replay_rows.specs.Count.{one_more, with_row}
 use Rattle.replay_rows.specs.Number.{number_of}
 use Rattle.replay_rows.specs.declared.tally.Count.{Count}
@@ -13,9 +13,9 @@ none = record { rows = 0; differ = 0 }
 abbrev pub raised : List Count → ℕ → Bool → List Count
 raised counts i same = slice_set counts i (with_row (slice_index_or counts i none) same)
 
--- one more of the call, and of all, which stand at 0
+-- one more of the call, and of all, which stand at 0; a number above 25 has no count of its own
 abbrev pub counted : List Count → ℕ → Bool → List Count
-counted counts call same = raised (raised counts 0 same) call same
+counted counts call same = cond (ltb call 26) (raised (raised counts 0 same) call same) (raised counts 0 same)
 
 abbrev pub unread_after : Option Row → ℕ → ℕ
 unread_after None unread = one_more unread

@@ -3,3 +3,5 @@ pub mod Agree
 pub mod Count
 pub mod Counted
 pub mod Number
+pub mod Read
+pub mod Told

@@ -1,5 +1,5 @@
 // A stored answer and what was asked, as the words of a row have them: bench/src/bin/samples.rs.
-ghost use Rattle.std.specs.Prelude.{◌≡◌, ◌+◌, ◌<◌, ◌↔◌, IsTrue, length};
+ghost use Rattle.std.specs.Prelude.{◌≡◌, ◌+◌, ◌≤◌, ◌<◌, ◌↔◌, IfSome, IsTrue, length};
 
 use crate::answer::{Answer, UNWRITTEN_BITS};
 use crate::call::Call;
@@ -21,7 +21,7 @@ pub struct LentArc {
     pub marks: u32,
 }
 
-// The inputs stand behind six words, then the refusal, how many outputs there are, and these.
+// The inputs stand behind six words, then the refusal, how many outputs there are, and these. What stands behind them counts for nothing.
 #[derive(Clone, Copy)]
 pub struct Sample<'a> {
     pub call: Call,
@@ -29,14 +29,17 @@ pub struct Sample<'a> {
     pub words: &'a [u64],
     pub inputs: usize,
     pub outputs: usize,
-    ghost whole: { inputs + 8 + outputs ≡ length words.now },
+    ghost whole: { inputs + 8 + outputs ≤ length words.now },
 }
 
 impl<'a> Sample<'a> {
     ghost use Rattle.replay_rows.specs.Agree.{Agrees, stored};
+    ghost use Rattle.replay_rows.specs.Read.{IsRead};
 
     // Nothing where there is no such call, or not as many inputs and outputs as the words say.
-    pub fn read(words: &'a [u64]) -> Option<Sample<'a>> {
+    pub fn read(words: &'a [u64]) -> Option<Sample<'a>>
+        ensures { IfSome result (λ sample. IsRead words.now sample) }
+    {
         let [number, a, b, out, counts, given, ..] = words else {
             return None;
         };
@@ -109,10 +112,11 @@ impl<'a> Sample<'a> {
     fn stored(&self, i: usize) -> u64
         ensures { result ≡ stored self.now.words.now (self.now.inputs + 8) self.now.outputs i }
     {
-        self.words[self.inputs + 8..]
-            .get(i)
-            .copied()
-            .unwrap_or(UNWRITTEN_BITS)
+        if i < self.outputs {
+            self.words[self.inputs + 8 + i]
+        } else {
+            UNWRITTEN_BITS
+        }
     }
 
     pub fn agrees(&self, answer: &Answer) -> bool

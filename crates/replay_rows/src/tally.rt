@@ -1,7 +1,6 @@
 // How many rows there were of each call and of all, and how many of them the library answers otherwise.
 ghost use Rattle.std.specs.Prelude.{◌≡◌};
 ghost use Rattle.replay_rows.specs.Counted.{Counts, counted};
-ghost use Rattle.replay_rows.specs.Number.{number_of};
 
 use crate::call::Call;
 use std::io::Stdout;
@@ -49,12 +48,15 @@ pub struct Tally {
 }
 
 impl Tally {
-    fn count(&mut self, call: Call, same: bool)
-        ensures counts { self.new.counts ≡ counted self.old.counts (number_of call) same }
+    // A row of the call with a number. Of a number that no call has it counts among all: of one above 25 once, of 0 twice.
+    pub fn count(&mut self, call: u64, same: bool)
+        ensures counts { self.new.counts ≡ counted self.old.counts call same }
         ensures unread { self.new.unread ≡ self.old.unread }
     {
         self.counts[0].add(same);
-        self.counts[call.number()].add(same);
+        if call < 26 {
+            self.counts[call as usize].add(same);
+        }
     }
 
     // None is a row that could not be read.
@@ -63,8 +65,8 @@ impl Tally {
     {
         match row {
             None => self.unread = self.unread.saturating_add(1),
-            Some(Row::Same(call)) => self.count(call, true),
-            Some(Row::Differs(call)) => self.count(call, false),
+            Some(Row::Same(call)) => self.count(call.number() as u64, true),
+            Some(Row::Differs(call)) => self.count(call.number() as u64, false),
         }
     }
 
