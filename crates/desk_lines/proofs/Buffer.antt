@@ -4,9 +4,9 @@ use mathlib.Core.List.{List, [], ◌∷◌, ◌++◌}
 use Prim.Native.Nat.{ℕ, suc, ◌+◌, ◌-◌, ◌≤◌, ◌<◌, min}
 use native.Mathlib.Decide.{dec_le}
 use native.Mathlib.Omega.{arith}
-use lib.ListN.{length, take, drop, set, length-take, length-set, take-append-drop, replicate-append-replicate}
+use lib.ListN.{length, take, drop, set, length-take, length-set, length-replicate, take-append-drop, replicate-append-replicate}
 use lib.Seq.{take_all, length-take-le, drop-drop, drop-set-lt}
-use Rattle.std.proofs.lemmas.List.{append_cancel_left, take_more_set}
+use Rattle.std.proofs.lemmas.List.{append_cancel_left, drop_at, take_more_set}
 use Rattle.desk_lines.specs.Hand.{most, kept}
 use Rattle.desk_lines.specs.Buffer.{zeros, IsLaid}
 use Rattle.desk_lines.proofs.Hand.{push_kept, full_kept}
@@ -31,14 +31,15 @@ module _ (bytes : List ℕ) (n : ℕ) (h : IsLaid bytes n) where
   rest : drop n bytes ≡ zeros (most - n)
   rest = append_cancel_left (take n bytes) (drop n bytes) (zeros (most - n)) (take-append-drop n bytes ∙ sym h.back ∙ ap (λ (k : ℕ). take n bytes ++ zeros (most - k)) h.counted)
 
-  -- none of the bytes any more
-  pub laid_none : IsLaid (zeros n ++ drop n bytes) 0
-  laid_none =
-      let all : zeros n ++ drop n bytes ≡ zeros most = ap (λ (l : List ℕ). zeros n ++ l) rest ∙ replicate-append-replicate n (most - n) 0 ∙ ap zeros (up laid_few) in
-      rw all (laid-by (zeros most) 0 refl (omega arith) refl)
+  -- zeros over the bytes, whatever the count
+  pub laid_zeros : (m : ℕ) → m ≤ most → IsLaid (zeros n ++ drop n bytes) m
+  laid_zeros m small =
+      let all : zeros n ++ drop n bytes ≡ zeros most = ap (λ (l : List ℕ). zeros n ++ l) rest ∙ replicate-append-replicate n (most - n) 0 ∙ ap zeros (up n laid_few) in
+      let parts : zeros m ++ zeros (most - m) ≡ zeros most = replicate-append-replicate m (most - m) 0 ∙ ap zeros (up m small) in
+      rw all (laid-by (zeros most) m refl small (ap (drop m) (sym parts) ∙ drop_at (zeros m) (zeros (most - m)) m (length-replicate {A = ℕ} m 0)))
     where
-      up : n ≤ most → n + (most - n) ≡ most
-      up few = omega arith
+      up : (k : ℕ) → k ≤ most → k + (most - k) ≡ most
+      up k few = omega arith
 
   -- a byte more where the buffer is not full
   pub laid_more : (b : ℕ) → n < most → IsLaid (set bytes n b) (n + 1)
