@@ -3,7 +3,7 @@
 // first write or read that fails a line on standard error says why, and nothing more is answered.
 #![tactic(auto)]
 
-ghost use Rattle.std.specs.Prelude.{is_ok};
+ghost use Rattle.std.specs.Prelude.{◌≡◌, is_ok};
 ghost use Rattle.desk_output.specs.Reading.{start};
 ghost use Rattle.desk_stream.specs.Run.{KnowsPart, KnowsSome};
 
@@ -89,7 +89,8 @@ fn read_all(
     stream: &mut Stream,
     lent: &mut Buffers,
 ) -> Result<(), Failure>
-    ensures { KnowsSome stream.old stream.new }
+    requires begun { stream.old ≡ start }
+    ensures { KnowsSome start stream.new }
 {
     for _ in 0..u64::MAX {
         if read_piece(input, output, stream, lent)? == 0 {

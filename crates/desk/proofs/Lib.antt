@@ -3,3 +3,5 @@ pub mod Hits
 pub mod Needs
 pub mod Told
 pub mod Outcomes
+pub mod Places
+pub mod Tables

@@ -1,5 +1,6 @@
 -- What the contracts of the crate cite.
 pub mod Table
+pub mod Places
 pub mod Refused
 pub mod Reply
 pub mod Answer

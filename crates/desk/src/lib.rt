@@ -1,7 +1,7 @@
 // One line of arcdesk: it changes the table, and the bytes to print go to the end of a list.
 #![tactic(auto)]
 
-ghost use Rattle.std.specs.Prelude.{◌≡◌, ◌+◌, ◌-◌, ◌≤◌, length, cond, Some, None, OnOk, OnErr};
+ghost use Rattle.std.specs.Prelude.{◌≡◌, ◌+◌, ◌-◌, ◌≤◌, length, take, cond, Some, None, OnOk, OnErr};
 ghost use Rattle.arrayvec.specs.ArrayVec.{array_vec_len};
 ghost use Rattle.checks.specs.Refusal.{refusal_told};
 
@@ -22,19 +22,32 @@ pub const ROOM_NEED: usize = HIT * 2048;
 
 pub const OUT_NEED: usize = 262144;
 
-// The records taken so far, in order.
-#[derive(Drop)]
+// What stands in a place that no record has taken.
+const BLANK: Curve = Curve::Segment(0.0, 0.0, 0.0, 0.0);
+
+// The records taken so far, in order. Places and a count and no `ArrayVec`, which is not `Copy`.
+#[derive(Clone, Copy)]
 pub struct Table {
-    records: ArrayVec<Curve, MOST>,
+    places: [Curve; MOST],
+    count: usize,
 }
 
 impl Model for Table {
-    ghost use Rattle.std.specs.Prelude.{List};
+    ghost use Rattle.std.specs.Prelude.{List, length, take};
     ghost use Rattle.curves.specs.declared.Curve.{Curve};
 
     ghost Value = { List Curve };
 
-    ghost view = { λ t. t.records.items };
+    ghost use Rattle.desk.specs.Places.{laid, IsLaid};
+
+    ghost view = { λ t. take t.count t.places };
+
+    ghost invariant = { λ t. IsLaid t.places t.count };
+
+    // The blanks behind the records are there for it: by them the list gives the places back, so that a copy is the same.
+    ghost inverse = { λ records. record { places = laid records; count = length records } };
+
+    ghost inverse_ok = { λ t l i. record { places = l.back i; count = l.counted i } };
 }
 
 // The room, or what is left of the list, is too short for some line.
@@ -51,8 +64,31 @@ impl Table {
         ensures { result ≡ empty }
     {
         Table {
-            records: ArrayVec::new(),
+            places: [BLANK; MOST],
+            count: 0,
         }
+    }
+
+    // The first of 64 places, as many as a count says that are taken, or all.
+    pub fn of(places: &[Curve; MOST], count: usize) -> Self
+        ensures { result ≡ take count places.now }
+    {
+        let count = count.min(MOST);
+        let mut own = *places;
+        own[count..].fill(BLANK);
+        Table { places: own, count }
+    }
+
+    pub fn count(&self) -> usize
+        ensures { result ≡ length self.now }
+    {
+        self.records().len()
+    }
+
+    pub fn records(&self) -> &[Curve]
+        ensures { result.now ≡ self.now }
+    {
+        &self.places[..self.count]
     }
 
     // The records are numbered from 1.
@@ -60,7 +96,7 @@ impl Table {
     fn get(&self, number: usize) -> Option<Curve>
         ensures { result ≡ cond (held self.now number) (Some (record_at self.now number)) None }
     {
-        self.records.get(number.checked_sub(1)?).copied()
+        self.records().get(number.checked_sub(1)?).copied()
     }
 
     #[tactic(auto, unfolding(crate::specs::Refused::record_refusal))]
@@ -69,11 +105,12 @@ impl Table {
         ensures ok { OnOk result (self.new ≡ stored self.old c) }
         ensures err { OnErr result (self.new ≡ self.old) }
     {
-        if self.records.is_full() {
+        if self.count == MOST {
             return Err(Refusal::TableFull);
         }
         Faults::none().curve(c).passed()?;
-        self.records.push(c);
+        self.places[self.count] = c;
+        self.count += 1;
         Ok(())
     }
 

@@ -2,3 +2,4 @@
 pub mod Kept
 pub mod First
 pub mod Hand
+pub mod Buffer

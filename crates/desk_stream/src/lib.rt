@@ -1,15 +1,17 @@
 // The input of arcdesk, in pieces of any size: lines are found in it and answered, a step at a time. It reads and writes nothing itself.
 #![tactic(auto)]
 
-ghost use Rattle.std.specs.Prelude.{◌≡◌, ◌≤◌, [], length};
+ghost use Rattle.std.specs.Prelude.{◌≡◌, ◌≤◌, [], length, replicate};
+ghost use Rattle.laws.specs.Literal.{zero};
 ghost use Rattle.desk_lines.specs.Hand.{most};
 ghost use Rattle.desk_line.specs.Read.{read_line};
 ghost use Rattle.desk.specs.Reply.{shown, table_after};
+ghost use Rattle.desk.specs.Answer.{room_need};
 ghost use Rattle.desk_output.specs.Reading.{start};
 
 use arrayvec::ArrayVec;
 use desk::{OUT_NEED, ROOM_NEED, Table};
-use desk_lines::KEPT;
+use desk_lines::KeptLine;
 use std::marker::Model;
 
 // What a step is lent: a room for the hits of a query, and a list for the bytes to print. Apart from `Stream`, since nothing of it is known over a step.
@@ -20,7 +22,10 @@ pub struct Buffers {
 }
 
 impl Buffers {
-    pub fn new() -> Self {
+    pub fn new() -> Self
+        ensures room { result.room ≡ replicate room_need zero }
+        ensures out { result.out.items ≡ [] }
+    {
         Buffers {
             room: [0.0; ROOM_NEED],
             out: ArrayVec::new(),
@@ -29,11 +34,11 @@ impl Buffers {
 }
 
 // The table, the number of the line at hand, and what is kept of it.
-#[derive(Drop)]
+#[derive(Clone, Copy)]
 pub struct Stream {
-    table: Table,
-    number: u64,
-    line: ArrayVec<u8, KEPT>,
+    pub table: Table,
+    pub number: u64,
+    pub line: KeptLine,
 }
 
 impl Model for Stream {
@@ -41,12 +46,9 @@ impl Model for Stream {
 
     ghost Value = { Reading };
 
-    ghost view = { λ s. record { table = s.table; number = s.number; line = s.line.items } };
+    ghost view = { λ s. record { table = s.table; number = s.number; line = s.line } };
 
-    ghost use Rattle.std.specs.Prelude.{◌≤◌, length};
-    ghost use Rattle.desk_lines.specs.Hand.{most};
-
-    ghost invariant = { λ s. length s.line.items ≤ most };
+    ghost inverse = { λ q. record { table = q.table; number = q.number; line = q.line } };
 }
 
 impl Stream {
@@ -58,7 +60,7 @@ impl Stream {
         Stream {
             table: Table::new(),
             number: 1,
-            line: ArrayVec::new(),
+            line: KeptLine::new(),
         }
     }
 
