@@ -36,7 +36,7 @@ struct Replay {
 impl Replay {
     // Nothing where the line is no row.
     fn read(&mut self) -> Option<Row> {
-        rows::words(self.line.as_slice(), &mut self.words)?;
+        rows::read_words(self.line.as_slice(), &mut self.words)?;
         let sample = Sample::read(self.words.as_slice())?;
         Some(held(&sample))
     }

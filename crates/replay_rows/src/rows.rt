@@ -26,10 +26,17 @@ fn word(digits: &[u8]) -> Option<u64> {
 }
 
 // Puts the words of a line in the place of those before it. Nothing where some word cannot be read, or there are too many.
-pub fn words(line: &[u8], words: &mut Words) -> Option<()> {
+pub fn read_words(line: &[u8], words: &mut Words) -> Option<()> {
     words.clear();
     for digits in line.split(|b| *b == b'\t') {
         words.try_push(word(digits)?).ok()?;
     }
     Some(())
+}
+
+// The words of one line. Where lines follow one another, one list for all of them is faster.
+pub fn words(line: &[u8]) -> Option<Words> {
+    let mut words = Words::new();
+    read_words(line, &mut words)?;
+    Some(words)
 }
