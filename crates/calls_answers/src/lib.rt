@@ -89,14 +89,14 @@ impl Numbers<6> for Converted {
     ghost few = { Prim.search rules };
 
     fn numbers(self) -> [f64; 6] {
-        [
-            self.center.x,
-            self.center.y,
-            self.start,
-            self.end,
-            self.rx,
-            self.ry,
-        ]
+        let Converted {
+            center,
+            start,
+            end,
+            rx,
+            ry,
+        } = self;
+        [center.x, center.y, start, end, rx, ry]
     }
 }
 

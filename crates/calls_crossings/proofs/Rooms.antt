@@ -39,12 +39,13 @@ pub crossed_done : (n : ℕ) (hs : List CurveHit) (counts : List ℕ) (before af
 unfolding answered
 crossed_done n hs counts before after e r = record { answer = rw e refl; room = rw e r }
 
+pub crossed-refused : (n : ℕ) (hs : List CurveHit) (counts : List ℕ) (before : List Float) → (n ≡ accepted → ⊥) → Crossed n hs counts before (refused n) before
+unfolding answered
+crossed-refused n hs counts before h = record { answer = rw (ne_eqb n accepted h) refl; room = rw (ne_eqb n accepted h) refl }
+
 pub crossed_refused : (r : Refusal) (n : ℕ) (hs : List CurveHit) (counts : List ℕ) (before : List Float) → number_of r ≡ n
     → Crossed n hs counts before (refused (number_of r)) before
-unfolding answered
-crossed_refused r n hs counts before e =
-    let other = ne_eqb _ _ (number_of_refuses r) in
-    record { answer = rw (← e, other) refl; room = rw (← e, other) refl }
+crossed_refused r n hs counts before e = rw (← e) (crossed-refused (number_of r) hs counts before (number_of_refuses r))
 
 -- NO SECOND OUTCOME: what is told and the room afterwards are fixed
 pub crossed_unique : (n : ℕ) (hs : List CurveHit) (counts : List ℕ) (before : List Float) (told told' : Answer) (after after' : List Float)

@@ -5,12 +5,19 @@ use mathlib.Core.List.{List, [], ◌∷◌, ◌++◌}
 use Prim.Native.Nat.{ℕ, ◌≤◌}
 use native.Mathlib.Omega.{arith}
 use borrow.Author.Tests.{ltb-false}
-use lib.Ieee.{Float, nan, inf, fin}
+use lib.Ieee.{Float, nan, inf, fin, lt}
 use lib.Ieee.Scale.{finite}
 use Rattle.std.specs.Float.{float_is_finite}
+use Rattle.laws.specs.Size.{abs}
 use Rattle.checks.specs.declared.Faults.{Faults}
 use Rattle.checks.specs.Given.{Given, unreal, beyond, tested}
 use Rattle.checks.specs.Refusal.{accepted, not_a_number, beyond_limit, too_deep, room_too_short, deepest, deep, refusal}
+
+pub finite_size : (x : Float) → lt (abs x) (inf false) ≡ finite x
+unfolding lt abs
+finite_size nan = refl
+finite_size (inf s) = refl
+finite_size (fin s m e) = refl
 
 -- std's name for it
 pub is_finite_finite : (x : Float) → float_is_finite x ≡ finite x

@@ -16,9 +16,5 @@ pub use segment::intersect_segment_arc;
 pub fn meet(a: Option<f64>, b: Option<f64>, pos: Point) -> Option<CurveHit>
     ensures { result ≡ meet a b pos }
 {
-    Some(CurveHit {
-        t_a: a?,
-        t_b: b?,
-        pos,
-    })
+    Some(hits::hit_of(a?, b?, pos))
 }

@@ -2,7 +2,7 @@
 #![tactic(auto)]
 
 ghost use Rattle.std.specs.Prelude.{◌≡◌, ◌<◌, ◌≤◌, ◌/◌, length, map};
-ghost use Rattle.hits.specs.Hit.{hit_size, hit_from, put, hit_at, written, hit_part};
+ghost use Rattle.hits.specs.Hit.{hit_size, hit_from, hit_of, put, hit_at, written, hit_part};
 ghost use Rattle.hits.specs.Need.{short};
 ghost use Rattle.hits.specs.Stands.{OfHits};
 ghost use Rattle.hits.specs.Listed.{listed, one, both, turned, exchanged};
@@ -112,6 +112,12 @@ impl UpToTwo<CurveHit> {
             UpToTwo::Two(h, g) => UpToTwo::Two(h.turned(), g.turned()),
         }
     }
+}
+
+pub fn hit_of(t_a: f64, t_b: f64, pos: Point) -> CurveHit
+    ensures { result ≡ hit_of t_a t_b pos }
+{
+    CurveHit { t_a, t_b, pos }
 }
 
 // The hit i of those in the room.

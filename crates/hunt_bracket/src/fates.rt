@@ -21,7 +21,7 @@ fn seen(hits: &[[f64; HIT]], t: f64) -> bool
 {
     let mut found = false;
     for i in (0..hits.len()).rev() {
-        if near(hits[i][0], t) {
+        if near(CurveHit::from(hits[i]).t_a, t) {
             found = true;
             break;
         }
@@ -42,7 +42,7 @@ fn judge(a: Option<f64>, b: Option<f64>, pos: Point, hits: &[[f64; HIT]]) -> Fat
     if seen(hits, t_a) {
         return Fate::Double;
     }
-    Fate::Hit(CurveHit { t_a, t_b, pos })
+    Fate::Hit(hits::hit_of(t_a, t_b, pos))
 }
 
 impl Frame {

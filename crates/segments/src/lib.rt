@@ -101,9 +101,9 @@ pub fn intersect_segments(a1: Point, a2: Point, b1: Point, b2: Point) -> Option<
         x: a1.x + t_a * d1x,
         y: a1.y + t_a * d1y,
     };
-    Some(CurveHit {
-        t_a: scalar::clamp(t_a, 0.0, 1.0),
-        t_b: scalar::clamp(t_b, 0.0, 1.0),
+    Some(hits::hit_of(
+        scalar::clamp(t_a, 0.0, 1.0),
+        scalar::clamp(t_b, 0.0, 1.0),
         pos,
-    })
+    ))
 }

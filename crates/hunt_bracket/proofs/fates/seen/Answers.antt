@@ -12,7 +12,8 @@ pub loop-i-preserved : goal.loop-i-preserved
 loop-i-preserved c =
     let l = c.loop-i in
     let next : suc (l.i - 1) ≡ l.i = omega arith in
-    (l.invariant.0, rw (double_next c.args.t c.args.hits.now (l.i - 1) (omega arith), ← c.near.ensures, c.if-near.false, next) l.invariant.1)
+    let looked = rw c.from.ensures at c.near.ensures in
+    (l.invariant.0, rw (double_next c.args.t c.args.hits.now (l.i - 1) (omega arith), ← looked, c.if-near.false, next) l.invariant.1)
 
 pub returns-after-loop-i : goal.returns-after-loop-i
 returns-after-loop-i c =
@@ -24,4 +25,5 @@ pub returns-then-near : goal.returns-then-near
 returns-then-near c =
     let l = c.loop-i in
     let hits = c.args.hits.now in
-    sym (double_among c.args.t (map hit_from hits) (l.i - 1) (rw (double_next c.args.t hits (l.i - 1) (omega arith), ← c.near.ensures, c.if-near.true) refl))
+    let looked = rw c.from.ensures at c.near.ensures in
+    sym (double_among c.args.t (map hit_from hits) (l.i - 1) (rw (double_next c.args.t hits (l.i - 1) (omega arith), ← looked, c.if-near.true) refl))
