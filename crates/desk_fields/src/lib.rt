@@ -35,7 +35,7 @@ impl<'a> Fields<'a> {
     {
         let mut bits = 0;
         for _ in 0..16u64 {
-            bits = bits * 16 + u64::from(digits::hex_value(self.byte()?)?);
+            bits = bits * 16 + u64::from(digits::hex_value(u64::from(self.byte()?))?);
         }
         Some(bits)
     }
@@ -53,7 +53,7 @@ impl<'a> Fields<'a> {
         ensures { leaving result self.new.rest.now ≡ digit_of self.old.rest.now }
     {
         self.tab()?;
-        digits::digit_value(self.byte()?)
+        digits::digit_value(u64::from(self.byte()?))
     }
 
     #[tactic(auto, unfolding(crate::specs::Field::mark_of))]
@@ -74,7 +74,7 @@ impl<'a> Fields<'a> {
     {
         let mut number = 0;
         while let Some((&b, rest)) = self.rest.split_first() {
-            let Some(digit) = digits::digit_value(b) else {
+            let Some(digit) = digits::digit_value(u64::from(b)) else {
                 break;
             };
             number = (number * 10 + usize::from(digit)).min(65);

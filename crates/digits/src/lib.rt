@@ -42,10 +42,11 @@ pub fn put_decimal<const N: usize>(out: &mut ArrayVec<u8, N>, n: u64)
     out.insert(first, b'0' + rest as u8);
 }
 
-// The value of a decimal digit.
-pub fn digit_value(b: u8) -> Option<u8>
+// The value of a decimal digit. A number that is no byte has none.
+pub fn digit_value(b: u64) -> Option<u8>
     ensures { result ≡ digit_value b }
 {
+    let b = u8::try_from(b).ok()?;
     match b {
         b'0'..=b'9' => Some(b - b'0'),
         _ => None,
@@ -53,11 +54,12 @@ pub fn digit_value(b: u8) -> Option<u8>
 }
 
 // The value of a hex digit. `char::to_digit` takes upper case too.
-pub fn hex_value(b: u8) -> Option<u8>
+pub fn hex_value(b: u64) -> Option<u8>
     ensures { result ≡ hex_value b }
 {
+    let b = u8::try_from(b).ok()?;
     match b {
         b'a'..=b'f' => Some(b - b'a' + 10),
-        _ => digit_value(b),
+        _ => digit_value(u64::from(b)),
     }
 }

@@ -8,7 +8,7 @@ pub type Words = ArrayVec<u64, 128>;
 
 // The value of a hex digit.
 pub fn digit(b: u8) -> Option<u64> {
-    digits::hex_value(b).map(u64::from)
+    digits::hex_value(u64::from(b)).map(u64::from)
 }
 
 fn word(digits: &[u8]) -> Option<u64> {
