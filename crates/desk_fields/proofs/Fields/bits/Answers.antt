@@ -19,7 +19,7 @@ loop-preserved c =
     let d = hex_digit-from_value c.in_ok-byte.field-0 c.in_ok-hex_value.field-0 (sym value) in
     record {
       small = omega (arith, d.small, pow_more 16 c.loop.counter);
-      reading = c.loop.invariant.reading ∙ bits_more c.loop.counter c.loop.bits c.loop.self.rest.now (omega arith) ∙ rw (← c.in_ok-byte.ensures, ← value, c.from-in-loop.ensures);
+      reading = c.loop.invariant.reading ∙ bits_more c.loop.counter c.loop.bits c.loop.self.rest.now (omega arith) ∙ rw (← c.in_ok-byte.ensures.read, ← value, c.from-in-loop.ensures);
     }
 
 pub returns : goal.returns
