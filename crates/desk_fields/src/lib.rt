@@ -1,18 +1,19 @@
 // The fields of a line, read one by one off what is left of it.
 #![tactic(auto)]
 
-// What is left of a line. Each field stands behind a tab. Where a field is not there, what is left then is not said.
+// What is left of a line. Each field stands behind a tab. Where a field is not there, nothing is taken.
 #[derive(Clone, Copy)]
 pub struct Fields<'a> {
     pub rest: &'a [u8],
 }
 
 impl<'a> Fields<'a> {
-    ghost use Rattle.std.specs.Prelude.{◌≡◌};
+    ghost use Rattle.std.specs.Prelude.{◌≡◌, IfNone};
     ghost use Rattle.desk_fields.specs.Field.{leaving, byte_of, tab_of, bits_of, number_of, digit_of, mark_of, run_of, record_of, end_of};
 
     pub fn byte(&mut self) -> Option<u8>
-        ensures { leaving result self.new.rest.now ≡ byte_of self.old.rest.now }
+        ensures read { leaving result self.new.rest.now ≡ byte_of self.old.rest.now }
+        ensures none { IfNone result (self.new ≡ self.old) }
     {
         let (&b, rest) = self.rest.split_first()?;
         self.rest = rest;
@@ -35,36 +36,48 @@ impl<'a> Fields<'a> {
     {
         let mut bits = 0;
         for _ in 0..16u64 {
-            bits = bits * 16 + u64::from(digits::hex_value(self.byte()?)?);
+            bits = bits * 16 + u64::from(digits::hex_value(u64::from(self.byte()?))?);
         }
         Some(bits)
     }
 
     #[tactic(auto, unfolding(crate::specs::Field::number_of))]
     pub fn number(&mut self) -> Option<f64>
-        ensures { leaving result self.new.rest.now ≡ number_of self.old.rest.now }
+        ensures read { leaving result self.new.rest.now ≡ number_of self.old.rest.now }
+        ensures none { IfNone result (self.new ≡ self.old) }
     {
-        self.tab()?;
-        Some(scalar::from_bits(self.bits()?))
+        let mut fields = *self;
+        fields.tab()?;
+        let bits = fields.bits()?;
+        *self = fields;
+        Some(scalar::from_bits(bits))
     }
 
     #[tactic(auto, unfolding(crate::specs::Field::digit_of))]
     pub fn digit(&mut self) -> Option<u8>
-        ensures { leaving result self.new.rest.now ≡ digit_of self.old.rest.now }
+        ensures read { leaving result self.new.rest.now ≡ digit_of self.old.rest.now }
+        ensures none { IfNone result (self.new ≡ self.old) }
     {
-        self.tab()?;
-        digits::digit_value(self.byte()?)
+        let mut fields = *self;
+        fields.tab()?;
+        let digit = digits::digit_value(u64::from(fields.byte()?))?;
+        *self = fields;
+        Some(digit)
     }
 
     #[tactic(auto, unfolding(crate::specs::Field::mark_of))]
     pub fn mark(&mut self) -> Option<bool>
-        ensures { leaving result self.new.rest.now ≡ mark_of self.old.rest.now }
+        ensures read { leaving result self.new.rest.now ≡ mark_of self.old.rest.now }
+        ensures none { IfNone result (self.new ≡ self.old) }
     {
-        match self.digit()? {
-            0 => Some(false),
-            1 => Some(true),
-            _ => None,
-        }
+        let mut fields = *self;
+        let mark = match fields.digit()? {
+            0 => false,
+            1 => true,
+            _ => return None,
+        };
+        *self = fields;
+        Some(mark)
     }
 
     // The number whose digits are next, however many. All numbers above 64 are 65.
@@ -74,7 +87,7 @@ impl<'a> Fields<'a> {
     {
         let mut number = 0;
         while let Some((&b, rest)) = self.rest.split_first() {
-            let Some(digit) = digits::digit_value(b) else {
+            let Some(digit) = digits::digit_value(u64::from(b)) else {
                 break;
             };
             number = (number * 10 + usize::from(digit)).min(65);
@@ -86,13 +99,17 @@ impl<'a> Fields<'a> {
     // A record number begins with 1 to 9.
     #[tactic(auto, unfolding(crate::specs::Field::record_of))]
     pub fn record(&mut self) -> Option<usize>
-        ensures { leaving result self.new.rest.now ≡ record_of self.old.rest.now }
+        ensures read { leaving result self.new.rest.now ≡ record_of self.old.rest.now }
+        ensures none { IfNone result (self.new ≡ self.old) }
     {
-        self.tab()?;
-        match self.rest.first()? {
-            b'1'..=b'9' => Some(self.run()),
-            _ => None,
-        }
+        let mut fields = *self;
+        fields.tab()?;
+        let b'1'..=b'9' = fields.rest.first()? else {
+            return None;
+        };
+        let number = fields.run();
+        *self = fields;
+        Some(number)
     }
 
     // No field is left.

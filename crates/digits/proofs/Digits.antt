@@ -8,9 +8,9 @@ use Rattle.std.proofs.Common.{pow-add}
 use native.Mathlib.Omega.{arith}
 use borrow.Author.Tests.{lt-ltb, le-ltb, ltb-true, ltb-false}
 use lib.Dec.{ltb}
-use lib.ListN.{length, length-append}
-use Rattle.std.specs.List.{insert}
-use Rattle.std.proofs.lemmas.List.Edits.{insert-append_right}
+use lib.ListN.{length, get_or, drop, length-append, drop_of_length-le}
+use lib.Seq.{drop-cons}
+use native.Mathlib.Numerals.{add-one}
 use Rattle.std.proofs.Math.Seq.{append_snoc}
 use Rattle.digits.specs.Decimal.{decimal_digit, decimals, decimal}
 use Rattle.digits.specs.Hex.{hex_digit, hex_digits}
@@ -77,18 +77,13 @@ decimals-length (suc k) n = go (ltb n 10) refl (decimals-length k (n / 10))
 
 -- ---- the lowest digits, one before the other
 
--- behind what was there before: those of n that are written, of which `rest` is what is left
-pub record Written (before now : List ℕ) (rest n : ℕ) : Type 0 where
-  pub digits : List ℕ
-  pub few : length digits < 20
-  pub below : rest < 10 ^ (20 - length digits)
-  pub stand : now ≡ before ++ digits
-  pub all : decimals (20 - length digits) rest ++ digits ≡ decimal n
+-- the digits of n that stand, of which `rest` is what is left, of at most k digits
+pub record Written (k : ℕ) (digits : List ℕ) (rest n : ℕ) : Type 0 where
+  pub below : rest < 10 ^ k
+  pub all : decimals k rest ++ digits ≡ decimal n
 
-insert-behind : (before digits : List ℕ) (d : ℕ) → insert (before ++ digits) (length before) d ≡ before ++ d ∷ digits
-insert-behind before digits d =
-    let none : length before - length before ≡ 0 = omega arith in
-    insert-append_right before digits (length before) (length before) d refl (omega arith) ∙ ap (λ (i : ℕ). before ++ insert digits i d) none
+pub written-none : (n : ℕ) → n < 2 ^ 64 → Written 20 [] n n
+written-none n h = record { below = omega arith; all = append-nil (decimal n) }
 
 -- what a division leaves has one digit less
 divided : (k n : ℕ) → 10 ≤ n → n < 10 ^ k → (2 ≤ k) × (n / 10 < 10 ^ (k - 1))
@@ -107,25 +102,26 @@ decimals_more (suc k) n h l =
     let one : suc k - 1 ≡ k = omega arith in
     rw one (decimals_many k n h)
 
-module _ {before now : List ℕ} {rest n : ℕ} (w : Written before now rest n) where
-  pub written-next : 10 ≤ rest → Written before (insert now (length before) (decimal_digit (rest % 10))) (rest / 10) n
+module _ {k : ℕ} {digits : List ℕ} {rest n : ℕ} (w : Written k digits rest n) where
+  pub written-more : 10 ≤ rest → 2 ≤ k
+  written-more many = (divided k rest many w.below).0
+
+  pub written-next : 10 ≤ rest → Written (k - 1) (decimal_digit (rest % 10) ∷ digits) (rest / 10) n
   written-next many =
-      let ds = w.digits in
-      let k = 20 - length ds in
-      let left : 20 - suc (length ds) ≡ k - 1 = omega arith in
       let (more, fewer) = divided k rest many w.below in
       record {
-        digits = decimal_digit (rest % 10) ∷ ds;
-        few = omega arith;
-        below = rw left fewer;
-        stand = ap (λ (l : List ℕ). insert l (length before) (decimal_digit (rest % 10))) w.stand ∙ insert-behind before ds (decimal_digit (rest % 10));
-        all = rw left (sym (append_snoc (decimals (k - 1) (rest / 10)) (decimal_digit (rest % 10)) ds) ∙ ap (λ (l : List ℕ). l ++ ds) (sym (decimals_more k rest many more)) ∙ w.all);
+        below = fewer;
+        all = sym (append_snoc (decimals (k - 1) (rest / 10)) (decimal_digit (rest % 10)) digits) ∙ ap (λ (l : List ℕ). l ++ digits) (sym (decimals_more k rest many more)) ∙ w.all;
       }
 
-  pub written-last : rest < 10 → insert now (length before) (decimal_digit rest) ≡ before ++ decimal n
-  written-last few =
-      let ds = w.digits in
-      let some : 20 - length ds ≡ suc (19 - length ds) = omega (arith, w.few) in
-      ap (λ (l : List ℕ). insert l (length before) (decimal_digit rest)) w.stand ∙ insert-behind before ds (decimal_digit rest)
-      ∙ ap (λ (l : List ℕ). before ++ (l ++ ds)) (sym (ap (λ (i : ℕ). decimals i rest) some ∙ decimals_few (19 - length ds) rest few))
-      ∙ ap (λ (l : List ℕ). before ++ l) w.all
+  pub written-last : rest < 10 → 0 < k → decimal_digit rest ∷ digits ≡ decimal n
+  written-last few some =
+      let one : k ≡ suc (k - 1) = omega arith in
+      ap (λ (l : List ℕ). l ++ digits) (sym (ap (λ (i : ℕ). decimals i rest) one ∙ decimals_few (k - 1) rest few)) ∙ w.all
+
+-- ---- the row of them, appended one after the other
+pub appended-next : (l row : List ℕ) (i : ℕ) → i < length row → (l ++ get_or row i 0 ∷ []) ++ drop (i + 1) row ≡ l ++ drop i row
+appended-next l row i h = append_snoc l (get_or row i 0) (drop (i + 1) row) ∙ ap (λ (r : List ℕ). l ++ r) (sym (drop-cons row i 0 h ∙ rw (← add-one i) refl))
+
+pub appended-done : (l row : List ℕ) (i : ℕ) → length row ≤ i → l ++ drop i row ≡ l
+appended-done l row i h = ap (λ (r : List ℕ). l ++ r) (drop_of_length-le row h) ∙ append-nil l

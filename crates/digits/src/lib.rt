@@ -28,24 +28,30 @@ pub fn put_hex<const N: usize>(out: &mut ArrayVec<u8, N>, n: u64)
     }
 }
 
-// The decimal digits of n. A division gives the lowest, so each goes before those that stand there.
+// The decimal digits of n. A division gives the lowest, so a row that has room for 20 is filled from its end.
 pub fn put_decimal<const N: usize>(out: &mut ArrayVec<u8, N>, n: u64)
     requires { array_vec_len out.old + 20 ≤ N }
     ensures { out.new.items ≡ out.old.items ++ decimal n }
 {
-    let first = out.len();
+    let mut digits = [0; 20];
+    let mut first = 19;
     let mut rest = n;
     while 10 <= rest {
-        out.insert(first, b'0' + (rest % 10) as u8);
+        digits[first] = b'0' + (rest % 10) as u8;
+        first -= 1;
         rest /= 10;
     }
-    out.insert(first, b'0' + rest as u8);
+    digits[first] = b'0' + rest as u8;
+    for i in first..20 {
+        out.push(digits[i]);
+    }
 }
 
-// The value of a decimal digit.
-pub fn digit_value(b: u8) -> Option<u8>
+// The value of a decimal digit. A number that is no byte has none.
+pub fn digit_value(b: u64) -> Option<u8>
     ensures { result ≡ digit_value b }
 {
+    let b = u8::try_from(b).ok()?;
     match b {
         b'0'..=b'9' => Some(b - b'0'),
         _ => None,
@@ -53,11 +59,12 @@ pub fn digit_value(b: u8) -> Option<u8>
 }
 
 // The value of a hex digit. `char::to_digit` takes upper case too.
-pub fn hex_value(b: u8) -> Option<u8>
+pub fn hex_value(b: u64) -> Option<u8>
     ensures { result ≡ hex_value b }
 {
+    let b = u8::try_from(b).ok()?;
     match b {
         b'a'..=b'f' => Some(b - b'a' + 10),
-        _ => digit_value(b),
+        _ => digit_value(u64::from(b)),
     }
 }

@@ -21,11 +21,14 @@ pub fn write(numbers: &[f64], out: &mut [f64]) -> u32
     0
 }
 
+// A store for each value. `copy_from_slice` would make the archive for C need `memmove` from outside.
 pub fn place<T: Copy>(values: &[T], out: &mut [T])
     requires { length values.now ≤ length out.old }
     ensures { out.new ≡ over values.now out.old }
 {
-    out[..values.len()].copy_from_slice(values);
+    for i in 0..values.len() {
+        out[i] = values[i];
+    }
 }
 
 // The library's refusal where there is room for so many numbers; else the room's in its place, as 01's order has it: by the numbers, which C is given and in which that order stands.

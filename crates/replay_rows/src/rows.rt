@@ -13,7 +13,7 @@ pub type Words = ArrayVec<u64, 128>;
 pub fn digit(b: u8) -> Option<u64>
     ensures { result ≡ hex_value b }
 {
-    digits::hex_value(b).map(u64::from)
+    digits::hex_value(u64::from(b)).map(u64::from)
 }
 
 fn word(digits: &[u8]) -> Option<u64> {
