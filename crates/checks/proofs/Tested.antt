@@ -5,7 +5,7 @@ use mathlib.Core.List.{List, [], ◌∷◌, ◌++◌}
 use Prim.Native.Nat.{ℕ, ◌≤◌}
 use native.Mathlib.Omega.{arith}
 use borrow.Author.Tests.{ltb-false}
-use lib.Ieee.{Float, nan, inf, fin, lt}
+use lib.Ieee.{Float, nan, inf, fin, binary64, lt, of_bits}
 use lib.Ieee.Scale.{finite}
 use Rattle.std.specs.Float.{float_is_finite}
 use Rattle.laws.specs.Size.{abs}
@@ -18,6 +18,11 @@ unfolding lt abs
 finite_size nan = refl
 finite_size (inf s) = refl
 finite_size (fin s m e) = refl
+
+-- by the bits of infinity
+pub below_infinity : (x : Float) → lt (abs x) (of_bits binary64 0x7ff0000000000000) ≡ finite x
+unfolding of_bits
+below_infinity x = finite_size x
 
 -- std's name for it
 pub is_finite_finite : (x : Float) → float_is_finite x ≡ finite x

@@ -27,6 +27,12 @@ nan_is nan h = refl
 nan_is (inf s) h = absurd (true≢false (sym h))
 nan_is (fin s m e) h = absurd (true≢false (sym h))
 
+pub nan_to_bits : (x : Float) → is_nan x ≡ true → to_bits binary64 x ≡ 0x7ff8000000000000
+unfolding is_nan to_bits
+nan_to_bits nan h = refl
+nan_to_bits (inf s) h = absurd (true≢false (sym h))
+nan_to_bits (fin s m e) h = absurd (true≢false (sym h))
+
 -- ---- a NaN is below nothing, and nothing below it
 
 nan_lt : (x : Float) → lt nan x ≡ false
