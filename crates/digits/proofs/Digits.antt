@@ -79,22 +79,22 @@ decimals-length (suc k) n = go (ltb n 10) refl (decimals-length k (n / 10))
 
 -- the digits of n that stand, of which `rest` is what is left, of at most k digits
 pub record Written (k : ℕ) (digits : List ℕ) (rest n : ℕ) : Type 0 where
-  pub below : rest < 10 ^ k
+  pub few : k ≤ 20
+  pub below : rest * 10 ^ (20 - k) < 2 ^ 64
   pub all : decimals k rest ++ digits ≡ decimal n
 
 pub written-none : (n : ℕ) → n < 2 ^ 64 → Written 20 [] n n
-written-none n h = record { below = omega arith; all = append-nil (decimal n) }
+written-none n h = record { few = omega arith; below = omega arith; all = append-nil (decimal n) }
 
--- what a division leaves has one digit less
-divided : (k n : ℕ) → 10 ≤ n → n < 10 ^ k → (2 ≤ k) × (n / 10 < 10 ^ (k - 1))
-divided nought n h less = absurd (omega arith)
-divided (suc nought) n h less = absurd (omega arith)
-divided (suc (suc k)) n h less =
-    let one : suc (suc k) - 1 ≡ suc k = omega arith in
-    rw one (omega arith, fewer (10 ^ suc k) (rw (pow-suc 10 (suc k)) at less))
-  where
-    fewer : (p : ℕ) → n < 10 ^ suc k * 10 → n / 10 < 10 ^ suc k
-    fewer p h = omega arith
+-- a number of 64 bits has 20 digits only with a 1 before the others
+not-the-last : (k rest : ℕ) → rest * 10 ^ (20 - k) < 2 ^ 64 → 2 ≤ rest → 2 ≤ k
+not-the-last nought rest h many = absurd (omega arith)
+not-the-last (suc nought) rest h many = absurd (omega arith)
+not-the-last (suc (suc k)) rest h many = omega arith
+
+-- what a division leaves stands one digit higher
+divided : (q r p : ℕ) → (q * 10 + r) * p < 2 ^ 64 → q * (p * 10) < 2 ^ 64
+divided q r p h = omega arith
 
 decimals_more : (k n : ℕ) → 10 ≤ n → 2 ≤ k → decimals k n ≡ decimals (k - 1) (n / 10) ++ decimal_digit (n % 10) ∷ []
 decimals_more nought n h l = absurd (omega arith)
@@ -103,14 +103,17 @@ decimals_more (suc k) n h l =
     rw one (decimals_many k n h)
 
 module _ {k : ℕ} {digits : List ℕ} {rest n : ℕ} (w : Written k digits rest n) where
-  pub written-more : 10 ≤ rest → 2 ≤ k
-  written-more many = (divided k rest many w.below).0
+  pub written-more : 2 ≤ rest → 2 ≤ k
+  written-more many = not-the-last k rest w.below many
 
   pub written-next : 10 ≤ rest → Written (k - 1) (decimal_digit (rest % 10) ∷ digits) (rest / 10) n
   written-next many =
-      let (more, fewer) = divided k rest many w.below in
+      let more = written-more (omega arith) in
+      let turn : 20 - (k - 1) ≡ suc (20 - k) = omega (arith, w.few) in
+      let parts : rest ≡ rest / 10 * 10 + rest % 10 = omega arith in
       record {
-        below = fewer;
+        few = omega (arith, w.few);
+        below = rw (turn, pow-suc 10 (20 - k)) (divided (rest / 10) (rest % 10) (10 ^ (20 - k)) (rw (← parts) w.below));
         all = sym (append_snoc (decimals (k - 1) (rest / 10)) (decimal_digit (rest % 10)) digits) ∙ ap (λ (l : List ℕ). l ++ digits) (sym (decimals_more k rest many more)) ∙ w.all;
       }
 

@@ -5,7 +5,7 @@ use Rattle.digits.proofs.Digits.{written-none, written-more, written-next, writt
 use Rattle.digits.proofs.put_decimal.Goals as goal
 
 pub loop-rest-init : goal.loop-rest-init
-loop-rest-init g c = record { row = refl; within = omega arith; written = written-none c.args.n (omega (arith, c.ranges.n)) }
+loop-rest-init g c = record { row = refl; written = written-none c.args.n (omega (arith, c.ranges.n)) }
 
 pub overflow_sub-first : goal.overflow_sub-first
 overflow_sub-first g c = omega (arith, written-more c.loop-rest.invariant.written (omega arith))
@@ -19,7 +19,6 @@ loop-rest-preserved g c =
     let left : l.first + 1 - 1 ≡ l.first = omega arith in
     record {
       row = length-set l.digits l.first _ ∙ l.invariant.row;
-      within = omega arith;
       written = rw (back, drop-set l.digits l.first _ (omega (arith, l.invariant.row))) (rw left at w);
     }
 

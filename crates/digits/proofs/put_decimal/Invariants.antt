@@ -1,5 +1,5 @@
 -- The invariants: the digits of what is left and those that stand are all; then the list with those that are not appended is as promised.
-use Rattle.std.proofs.Common.{◌≡◌, ◌+◌, ◌-◌, ◌≤◌, ◌<◌, ◌++◌, length, drop}
+use Rattle.std.proofs.Common.{◌≡◌, ◌+◌, ◌-◌, ◌≤◌, ◌++◌, length, drop}
 use Rattle.digits.specs.Decimal.{decimal}
 use Rattle.digits.proofs.Digits.{Written}
 use Rattle.digits.proofs.put_decimal.Given as goal
@@ -7,7 +7,6 @@ use Rattle.digits.proofs.put_decimal.Given as goal
 abbrev pub invariant-loop-rest : goal.invariant-loop-rest
 invariant-loop-rest g l = record {
   row : length l.digits ≡ 20;
-  within : l.first < 20;
   written : Written (l.first + 1) (drop (l.first + 1) l.digits) l.rest l.n;
 }
 
