@@ -15,11 +15,16 @@ fn less_turns(digits: u64, places: u64) -> u64
     requires { digits < 2 ^ 53 }
     ensures { result ≡ digits * 2 ^ places % 7074237752028440 }
 {
+    // An x below 8192 needs ten places at most, and waits for no count of turns. Beyond, the last step moves one to ten places: with none left it would cost a remainder more.
+    if places <= 10 {
+        return (digits << places) % TURN;
+    }
+    let turns = (places - 1) / 10;
     let mut r = digits;
-    for _ in 0..places / 10 {
+    for _ in 0..turns {
         r = (r << 10) % TURN;
     }
-    (r << places % 10) % TURN
+    (r << (places - 10 * turns)) % TURN
 }
 
 pub fn remainder(x: f64) -> f64

@@ -1,4 +1,4 @@
-use Rattle.std.proofs.Common.{◌≡◌, ℕ, ◌+◌, ◌*◌, ◌%◌, ◌^◌, sym, ap, ◌∙◌, lt_of_lt_of_le, mod-eq_of_lt, mul_assoc, arith, pow_mono, pow-add, shl_lt}
+use Rattle.std.proofs.Common.{◌≡◌, ℕ, ◌+◌, ◌-◌, ◌*◌, ◌/◌, ◌%◌, ◌^◌, ◌<◌, ◌≤◌, refl, sym, ap, ◌∙◌, lt_of_lt_of_le, mod-eq_of_lt, mul_assoc, arith, pow_mono, pow-add, shl_lt}
 use Rattle.std.proofs.lemmas.Nat.{mul-mod_first}
 use Rattle.sine.proofs.turns.less_turns.Goals as goal
 
@@ -17,12 +17,21 @@ loop-preserved c =
     let small : r * 1024 % 2 ^ 64 ≡ r * 1024 = mod-eq_of_lt (omega arith) in
     rw small (omega arith, omega (arith, more c.args.digits r (10 * i) 10 (10 * (i + 1)) h.1 (omega arith)))
 
+-- ten places and fewer stay in a word
+within : (r k : ℕ) → r < 2 ^ 53 → k ≤ 10 → r * 2 ^ k % 2 ^ 64 ≡ r * 2 ^ k
+within r k h l = mod-eq_of_lt (lt_of_lt_of_le (shl_lt 53 k h) (pow_mono {i = 53 + k} {j = 64} (omega arith)))
+
+pub returns-then-places-le10 : goal.returns-then-places-le10
+returns-then-places-le10 c = rw (within c.args.digits c.args.places (omega arith) (omega arith)) refl
+
 pub returns : goal.returns
 returns c =
     let r = c.loop.r in
     let p = c.args.places in
+    let i = c.loop.counter in
     let h = c.loop.invariant in
-    let whole : 10 * c.loop.counter + p % 10 ≡ p = omega (arith, c.loop.auto.counter-end, c.loop-test.false) in
-    let small : r * 2 ^ (p % 10) % 2 ^ 64 ≡ r * 2 ^ (p % 10) =
-    mod-eq_of_lt (lt_of_lt_of_le (shl_lt 53 (p % 10) h.0) (pow_mono {i = 53 + p % 10} {j = 64} (omega arith))) in
-    rw small (more c.args.digits r (10 * c.loop.counter) (p % 10) p h.1 whole)
+    let last : i ≡ (p - 1) / 10 = omega (arith, c.loop.auto.counter-end, c.loop-test.false) in
+    let left = p - 10 * ((p - 1) / 10) in
+    let few : left ≤ 10 = omega (arith, c.if-places-le10.false) in
+    let whole : 10 * i + left ≡ p = omega (arith, last, c.if-places-le10.false) in
+    rw (within r left h.0 few) (more c.args.digits r (10 * i) left p h.1 whole)
