@@ -1,6 +1,6 @@
 // The public library, with the types and constants that its calls speak in. Every call takes any number, checks its own, and refuses by document 01's number.
 // The refusal of a call with a room can be asked without one. The routines of part 1, those of `scalar`, `root` and the angles, and `hit` refuse nothing.
-// The sources of a crate above need no name but `arcs`. Its line of crates.txt has also the crates that declare the types it uses, as `rt` asks: sine, curves, shapes, hits, checks, calls_answers.
+// The sources of a crate above need no name but `arcs`. Its line of crates.txt has also the crates that declare the types it uses, as `rt` asks: sine, curves, shapes, hits, checks.
 #![tactic(auto)]
 
 pub use arccos::acos;

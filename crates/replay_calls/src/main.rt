@@ -47,11 +47,20 @@ impl Replay {
         self.line.clear();
     }
 
-    fn take(&mut self, b: u8) {
-        if b == b'\n' {
-            self.end_line();
-        } else {
-            let _ = self.line.try_push(b);
+    // Part of a line. What does not fit is dropped: a line that is full is no row.
+    fn keep(&mut self, part: &[u8]) {
+        let fits = part.len().min(self.line.remaining_capacity());
+        let _ = self.line.try_extend_from_slice(&part[..fits]);
+    }
+
+    // What a piece has of a line, with its newline where that has come. Not byte by byte, which takes longer.
+    fn take(&mut self, part: &[u8]) {
+        match part.split_last() {
+            Some((b'\n', line)) => {
+                self.keep(line);
+                self.end_line();
+            }
+            _ => self.keep(part),
         }
     }
 
@@ -63,8 +72,8 @@ impl Replay {
             if n == 0 {
                 break;
             }
-            for b in &buffer[..n] {
-                self.take(*b);
+            for part in buffer[..n].split_inclusive(|b| *b == b'\n') {
+                self.take(part);
             }
         }
         Ok(())
